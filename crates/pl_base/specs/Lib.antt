@@ -1,0 +1,4 @@
+pub mod Link
+pub mod Ring
+pub mod Rule
+pub mod Stop
