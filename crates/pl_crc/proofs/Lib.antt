@@ -1,0 +1,6 @@
+pub mod Division
+pub mod Entries
+pub mod Known
+pub mod Lengths
+pub mod Linear
+pub mod Standing
