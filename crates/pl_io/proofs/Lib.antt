@@ -1,0 +1,3 @@
+pub mod FaultPlan
+pub mod MemFiles
+pub mod Told

@@ -1,0 +1,4 @@
+pub mod FaultPlan
+pub mod Faults
+pub mod MemFiles
+pub mod Told

@@ -1,0 +1,73 @@
+//! The files of the system.
+ghost use Rattle.std.specs.Prelude.{◌≡◌, false, None, is_some};
+ghost use Rattle.std.proofs.lemmas.Bool.{false≢true};
+
+use crate::failed::{Failed, FaultCount};
+use crate::shelf::Shelf;
+use std::fs::File;
+use std::io::Read;
+use std::rt::Files;
+
+/// The files of the system by their paths. It tells none of their bytes, and is never sure.
+#[derive(Drop)]
+pub struct FileShelf<R: Files> {
+    rt: R,
+    file: Option<R::File>,
+    faults: FaultCount,
+}
+
+impl<R: Files> FileShelf<R> {
+    /// A shelf over these files, with none open and no fault.
+    pub fn new(rt: R) -> FileShelf<R>
+        ensures closed { ⟦<Self as Shelf>⟧.is_open result ≡ false }
+        ensures none_failed { ⟦<Self as Shelf>⟧.faults result ≡ 0 }
+    {
+        FileShelf {
+            rt,
+            file: None,
+            faults: FaultCount::new(),
+        }
+    }
+}
+
+impl<R: Files> Shelf for FileShelf<R> {
+    ghost told = { λ shelf. false };
+
+    ghost file = { λ shelf name. None };
+
+    ghost is_open = { λ shelf. is_some shelf.file };
+
+    ghost rest = { λ shelf. None };
+
+    ghost sure = { λ shelf. false };
+
+    ghost faults = { λ shelf. shelf.faults.value };
+
+    ghost sure_is_told = { λ shelf never. absurd (false≢true never) };
+
+    ghost sure_is_below = { λ shelf never. absurd (false≢true never) };
+
+    fn open(&mut self, name: &str) -> Result<(), Failed> {
+        match File::open(&self.rt, name) {
+            Ok(file) => {
+                self.file = Some(file);
+                Ok(())
+            }
+            Err(_) => {
+                self.file = None;
+                Err(self.faults.raise())
+            }
+        }
+    }
+
+    /// A read that a signal interrupts is counted as a fault like any other.
+    fn read(&mut self, buf: &mut [u8]) -> Result<usize, Failed> {
+        match &mut self.file {
+            Some(file) => match file.read(buf) {
+                Ok(count) => Ok(count),
+                Err(_) => Err(self.faults.raise()),
+            },
+            None => unreachable!(),
+        }
+    }
+}

@@ -1,0 +1,22 @@
+//! The outside as the program sees it: what can be read and written, and how often that failed.
+//!
+//! Programs are written over the traits. The memory forms tell all that they hold, so that a proof can
+//! name it; the adapters stand on files and on standard output, and tell only their count of faults.
+#![tactic(auto)]
+
+mod failed;
+mod files;
+mod memory;
+mod shelf;
+mod sink;
+mod standard_output;
+
+pub use failed::Failed;
+pub use files::FileShelf;
+pub use memory::{MemShelf, MemSink};
+pub use shelf::Shelf;
+pub use sink::{Sink, write_all};
+pub use standard_output::StdSink;
+
+#[cfg(test)]
+mod tests;

@@ -1,0 +1,8 @@
+//! The outside in memory. These objects tell all that they hold, and fail at the calls that they are told.
+mod file;
+mod plan;
+mod shelf;
+mod sink;
+
+pub use shelf::MemShelf;
+pub use sink::MemSink;
