@@ -1,0 +1,4 @@
+pub mod Values
+pub mod Parts
+pub mod Prefixes
+pub mod WholeFits

@@ -1,0 +1,6 @@
+pub mod Bits
+pub mod Kinds
+pub mod Header
+pub mod Fields
+pub mod Fit
+pub mod Cost
