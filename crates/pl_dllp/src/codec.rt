@@ -1,18 +1,22 @@
 //! The six bytes of a DLLP and back.
 //! PCI Express Base Specification 5.0, chapter 3 (DLLP types, Ack and Nak formats, DLLP CRC).
-ghost use Rattle.std.specs.Prelude.{◌≡◌, ◌∷◌, take};
+ghost use Rattle.std.specs.Prelude.{◌≡◌, ◌∷◌, Some, slice_index, take};
 ghost use Rattle.pl_dllp.specs.Encodable.{IfOk, IsEncodable, ReservedIsZero};
 ghost use Rattle.pl_dllp.specs.Frame.{content_frame, frame, packet_of};
+ghost use Rattle.pl_dllp.specs.Name.{name_of};
+ghost use Rattle.pl_dllp.specs.Types.{name_at};
 
 use crate::packet::{Decoded, Dllp};
 use crate::types::{ACK, Layout, NAK, type_of};
 use crate::{ack, flow};
 use pl_crc::crc16;
 
-/// What these six bytes are, the first byte on the link first.
+/// What these six bytes are, the byte that comes first on the link first. The CRC is looked at before the type,
+/// and reserved bits of an Ack or a Nak aren't looked at.
 pub fn decode(bytes: &[u8; 6]) -> Decoded
     ensures frame { result ≡ frame bytes.now }
     ensures fits { IfOk result IsEncodable }
+    ensures name { IfOk result (λ d. name_at (slice_index bytes.now 0) ≡ Some (name_of d)) }
 {
     let [code, first, second, third, low, high] = *bytes;
     let content = [code, first, second, third];
@@ -25,7 +29,10 @@ pub fn decode(bytes: &[u8; 6]) -> Decoded
     }
 }
 
-/// The six bytes of a packet, the first byte on the link first. Reserved bits are 0.
+/// The six bytes of a packet, the byte that comes first on the link first, with reserved bits 0.
+///
+/// Each field fits its width, and the first byte of an `Other` is a type whose three bytes are kept. Every packet
+/// that [`decode`] gives is such a packet.
 pub fn encode(d: &Dllp) -> [u8; 6]
     requires { IsEncodable d.now }
     ensures frame { frame result ≡ Decoded.Ok d.now }
@@ -61,6 +68,7 @@ fn store(d: &Dllp) -> [u8; 4]
     }
 }
 
+/// A first byte, and the three bytes behind it as they are.
 fn kept_behind(code: u8, kept: [u8; 3]) -> [u8; 4]
     ensures { result ≡ code ∷ kept }
 {
