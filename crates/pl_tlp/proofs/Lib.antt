@@ -2,3 +2,9 @@ pub mod Values
 pub mod Parts
 pub mod Prefixes
 pub mod WholeFits
+pub mod Written
+pub mod FirstByte
+pub mod FirstDw
+pub mod Layouts
+pub mod HeaderBack
+pub mod Encoded

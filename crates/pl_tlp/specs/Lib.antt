@@ -4,3 +4,4 @@ pub mod Header
 pub mod Fields
 pub mod Fit
 pub mod Cost
+pub mod Encoding

@@ -3,13 +3,16 @@
 
 mod bits;
 mod credits;
+mod encode;
 mod fitting;
 mod header;
 mod kind;
 mod reading;
+mod spelling;
 mod tlp;
 
 pub use credits::cost;
+pub use encode::encode_into;
 pub use fitting::fits;
 pub use kind::Kind;
 pub use pl_base::Class;

@@ -11,10 +11,10 @@ use crate::kind::{Kind, kind_of};
 use crate::tlp::{Tlp, View};
 
 /// The bytes of a header of 3 DW.
-const SHORT_HEADER: usize = 12;
+pub(crate) const SHORT_HEADER: usize = 12;
 
 /// The bytes of a header of 4 DW.
-const WIDE_HEADER: usize = 16;
+pub(crate) const WIDE_HEADER: usize = 16;
 
 /// Sees a TLP in its bytes, from the first prefix or the header to the digest; it copies no data.
 ///
