@@ -2,10 +2,11 @@
 use Rattle.std.proofs.Common.{◌≡◌, ℕ, ◌+◌, ◌*◌, ◌<◌, ◌≤◌, Bool, true, false, List, [], ◌∷◌, ◌++◌, length, take, drop, get_or, Option, Some, None, refl, sym, ap, ◌∙◌, arith, append_assoc, inl, inr, eq-eqb}
 use Rattle.std.specs.Prelude.{if◌then◌else◌, is_some, IfSome}
 use Rattle.std.proofs.lemmas.Bool.{cases_Bool, lt-leb}
-use Rattle.std.proofs.lemmas.List.{take_at, drop_at, length-append}
+use Rattle.std.proofs.lemmas.List.{take_at, drop_at, length-append, append-nil}
 use Rattle.pl_tlp.specs.declared.kind.Kind.{Kind}
 use Rattle.pl_tlp.specs.Bits.{bits, value}
-use Rattle.pl_tlp.specs.Kinds.{has_data, kind_at, kind_of}
+use Rattle.pl_tlp.specs.Header.{spare_bits}
+use Rattle.pl_tlp.specs.Kinds.{has_data, kind_at, kind_of, layout_of}
 use Rattle.pl_tlp.specs.Fields.{Fields, Whole, view_of, view_of_kind, header_size, data_size, digest_size, fields_of, is_prefix, prefix_count}
 use Rattle.pl_tlp.specs.Fit.{Fits}
 use Rattle.pl_tlp.specs.Encoding.{Encodes, IsHeader, Writes, digest_bytes, size_of}
@@ -121,6 +122,9 @@ bytes_size x header h =
     length-append (x.prefixes ++ header ++ x.payload) (digest_bytes x.digest)
     ∙ rw (length-append (x.prefixes ++ header) x.payload, length-append x.prefixes header, h.size) refl
 
+spare_back : (x : Fields) (header : List ℕ) → IsHeader x header → value (spare_bits (layout_of x.kind) x.wide) header ≡ 0
+spare_back x header h = ap (λ (xs : List ℕ). value (spare_bits (layout_of x.kind) x.wide) xs) (sym (append-nil header)) ∙ h.spare []
+
 pub encodes : (x : Fields) (header digest old new : List ℕ) (result : Option ℕ) → Fits x → IfSome x.digest (λ d. length d ≡ 4) → IsHeader x header
     → digest_bytes x.digest ≡ digest → Writes (x.prefixes ++ header ++ x.payload ++ digest) old result new → Encodes x old result new
 encodes x header digest old new None fit four h same w =
@@ -130,4 +134,4 @@ encodes x header digest old new None fit four h same w =
 encodes x header digest old new (Some n) fit four h same w =
     let size = bytes_size x header h in
     let w' = rw (← same) at w in
-    (w'.0 ∙ size, w'.1, (header, ap view_of w'.2 ∙ encoded x header fit four h), w'.3)
+    (w'.0 ∙ size, w'.1, (header, ap view_of w'.2 ∙ encoded x header fit four h, spare_back x header h), w'.3)

@@ -12,7 +12,7 @@ use Rattle.pl_tlp.specs.Fit.{LayoutFits}
 use Rattle.pl_tlp.specs.Encoding.{IsFirstDw, IsHeader}
 use Rattle.pl_tlp.proofs.Values.{value-bits, value-append, length-bits}
 use Rattle.pl_tlp.proofs.FirstDw.{flag_back, flag_small, most_back}
-use Rattle.pl_tlp.proofs.Layouts.{LayoutBack, fields_back, word_back, tag_back, halves, address_cells, address_back}
+use Rattle.pl_tlp.proofs.Layouts.{LayoutBack, fields_back, word_back, tag_back, halves, address_cells, address_back, low_bits_back, both_zero}
 
 -- Bytes 4 to 7 of a request, and its address.
 abbrev pub request_cells : Bool → Fields → ℕ → List ℕ
@@ -47,6 +47,7 @@ addressed_back x a b c d rest fit dw =
       bcm = sym fit.bcm;
       byte_count = sym fit.byte_count;
       lower = none_is x.lower fit.lower;
+      spare = both_zero (bits 1 1 1) _ h (dw.ln tail) (low_bits_back x.wide x.address h rest refl fit.address_unit);
     }
 
 configuration_back : (x : Fields) (a b c d : ℕ) (rest : List ℕ) → LayoutFits Configuration x → IsFirstDw x (a ∷ b ∷ c ∷ d ∷ [])
@@ -69,6 +70,7 @@ configuration_back x a b c d rest fit dw =
       bcm = sym fit.bcm;
       byte_count = sym fit.byte_count;
       lower = none_is x.lower fit.lower;
+      spare = dw.ln tail;
     }
 
 byte_is : (n : ℕ) → n < 2 ^ 8 → n / 2 ^ 0 % 2 ^ 8 ≡ n
@@ -93,6 +95,7 @@ message_back x a b c d rest layout fit dw =
       bcm = sym fit.bcm;
       byte_count = sym fit.byte_count;
       lower = none_is x.lower fit.lower;
+      spare = dw.ln tail;
     }
 
 status_small : (n : ℕ) → status_of n < 8
@@ -111,6 +114,9 @@ count_low n = omega arith
 
 seven_bits : (n : ℕ) → n < 2 ^ 7 → n / 2 ^ 0 % 2 ^ 7 ≡ n
 seven_bits n lt = omega arith
+
+top_zero : (n : ℕ) → n < 2 ^ 7 → n / 2 ^ 7 % 2 ^ 1 ≡ 0
+top_zero n lt = omega arith
 
 completion_back : (x : Fields) (a b c d : ℕ) (rest : List ℕ) → LayoutFits Completion x → IsFirstDw x (a ∷ b ∷ c ∷ d ∷ [])
     → LayoutBack Completion x (a ∷ b ∷ c ∷ d ∷ (completion_cells x ++ rest))
@@ -137,6 +143,7 @@ completion_back x a b c d rest fit dw =
       bcm = flag_back _ x.bcm (value-bits 6 4 4 h ∙ six.1);
       byte_count = rw count (most_back 4096 x.byte_count fit.byte_count.0 fit.byte_count.1);
       lower = value-bits 11 6 0 h ∙ seven_bits x.lower fit.lower;
+      spare = both_zero (bits 1 1 1) (bits 11 7 7) h (dw.ln tail) (value-bits 11 7 7 h ∙ top_zero x.lower fit.lower);
     }
 
 -- the bytes of a request, by its layout
@@ -161,6 +168,7 @@ header_is x dw tail size first back =
       length = λ rest. rw (append_assoc dw tail rest) (first.length (tail ++ rest));
       fields = λ rest. rw (append_assoc dw tail rest) (fields_back x dw (tail ++ rest) first (back rest));
       digest = λ rest. rw (append_assoc dw tail rest) (first.digest (tail ++ rest));
+      spare = λ rest. rw (append_assoc dw tail rest) (back rest).spare;
     }
 
 four_cells : (xs : List ℕ) → length xs ≡ 4 → xs ≡ get_or xs 0 0 ∷ get_or xs 1 0 ∷ get_or xs 2 0 ∷ get_or xs 3 0 ∷ []

@@ -1,15 +1,17 @@
 -- Headers that are written are read back.
 use Rattle.std.proofs.Common.{◌≡◌, ◌≢◌, ℕ, ◌+◌, ◌*◌, ◌/◌, ◌%◌, ◌^◌, ◌<◌, Bool, true, false, List, ◌∷◌, ◌++◌, length, drop, get_or, refl, sym, ap, ◌∙◌, arith}
-use Rattle.std.proofs.Math.Nat.{mod-eq_of_lt, one-mul}
+use Rattle.std.proofs.Math.Nat.{mod-eq_of_lt, one-mul, zero-mul}
 use Rattle.std.specs.Int.{byte_at, bytes_high_first}
+use Rattle.std.specs.Prelude.{if◌then◌else◌}
+use Rattle.std.proofs.lemmas.List.{get_or-drop}
 use Rattle.pl_tlp.specs.declared.kind.Layout.{Layout}
 use Rattle.pl_tlp.specs.declared.kind.Layout.TheVariants.{Addressed, Configuration, Message, Completion}
 use Rattle.pl_tlp.specs.Bits.{Place, bits, octets, value, is_set}
-use Rattle.pl_tlp.specs.Header.{requester_bits, tag_bits, first_be_bits, last_be_bits, address_bits, address_unit, code_bits, routing_bits, completer_bits, bcm_bits, lower_bits}
+use Rattle.pl_tlp.specs.Header.{requester_bits, tag_bits, first_be_bits, last_be_bits, address_bits, address_unit, code_bits, routing_bits, completer_bits, bcm_bits, lower_bits, spare_bits}
 use Rattle.pl_tlp.specs.Kinds.{layout_of}
 use Rattle.pl_tlp.specs.Fields.{Fields, status_in, byte_count_of, header_fields}
 use Rattle.pl_tlp.specs.Encoding.{IsFirstDw, bare}
-use Rattle.pl_tlp.proofs.Values.{value-bits, value-high, length-bits, octets_back}
+use Rattle.pl_tlp.proofs.Values.{value-append, value-bits, value-high, length-bits, octets_back}
 use Rattle.pl_tlp.proofs.Parts.{tag_value, short_split, wide_split}
 
 -- The fields behind the first DW are read back.
@@ -26,6 +28,7 @@ pub record LayoutBack (layout : Layout) (x : Fields) (h : List ℕ) : Type 0 whe
   pub bcm : is_set (bcm_bits layout) h ≡ x.bcm
   pub byte_count : byte_count_of layout h ≡ x.byte_count
   pub lower : value (lower_bits layout) h ≡ x.lower
+  pub spare : value (spare_bits layout x.wide) h ≡ 0
 
 pub fields_back : (x : Fields) (dw rest : List ℕ) → IsFirstDw x dw → LayoutBack (layout_of x.kind) x (dw ++ rest)
     → header_fields x.kind (dw ++ rest) ≡ bare x
@@ -92,3 +95,16 @@ address_back Configuration false n h rest e lt m apart = one-mul _ ∙ octets_ba
 address_back Message true n h rest e lt m apart = one-mul _ ∙ octets_back 8 8 n h rest e ∙ mod-eq_of_lt (rw (one-mul (2 ^ 64)) at lt)
 address_back Message false n h rest e lt m apart = one-mul _ ∙ octets_back 8 4 n h rest e ∙ mod-eq_of_lt (rw (one-mul (2 ^ 32)) at lt)
 address_back Completion wide n h rest e lt m apart = absurd (apart refl)
+
+low_zero : (n b : ℕ) → b ≡ n % 256 → n % 4 ≡ 0 → b / 2 ^ 0 % 2 ^ 2 ≡ 0
+low_zero n b e m = omega arith
+
+-- the two lowest bits of such an address
+pub low_bits_back : (wide : Bool) (n : ℕ) (h rest : List ℕ) → drop 8 h ≡ address_cells wide n ++ rest → n % 4 ≡ 0
+    → value (if wide then bits 15 1 0 else bits 11 1 0) h ≡ 0
+low_bits_back true n h rest e m = value-bits 15 1 0 h ∙ low_zero n _ (sym (get_or-drop 8 h 7 0) ∙ ap (λ (ys : List ℕ). get_or ys 7 0) e) m
+low_bits_back false n h rest e m = value-bits 11 1 0 h ∙ low_zero n _ (sym (get_or-drop 8 h 3 0) ∙ ap (λ (ys : List ℕ). get_or ys 3 0) e) m
+
+-- two spare parts
+pub both_zero : (ps qs : List Place) (h : List ℕ) → value ps h ≡ 0 → value qs h ≡ 0 → value (ps ++ qs) h ≡ 0
+both_zero ps qs h p q = value-append ps qs h ∙ rw (p, q, zero-mul (2 ^ length qs)) refl

@@ -2,7 +2,7 @@
 use Rattle.std.specs.Prelude.{◌≡◌, ℕ, ◌+◌, ◌/◌, ◌%◌, ◌<◌, ◌≤◌, List, [], ◌++◌, length, take, drop, Option, Some, None, is_some, unwrap_or, if◌then◌else◌}
 use Rattle.pl_tlp.specs.Bits.{bits, value, is_set}
 use Rattle.pl_tlp.specs.Kinds.{kind_of, has_data, layout_of}
-use Rattle.pl_tlp.specs.Header.{wide_bits, data_bits, tc_bits, attr_bits, at_bits, ep_bits, th_bits, td_bits, routing_bits}
+use Rattle.pl_tlp.specs.Header.{wide_bits, data_bits, tc_bits, attr_bits, at_bits, ep_bits, th_bits, td_bits, routing_bits, spare_bits}
 use Rattle.pl_tlp.specs.Fields.{Fields, Whole, view_of, header_fields, length_of}
 
 abbrev pub digest_bytes : Option (List ℕ) → List ℕ
@@ -12,9 +12,10 @@ digest_bytes digest = unwrap_or digest []
 abbrev pub size_of : Fields → ℕ
 size_of x = length x.prefixes + (if x.wide then 16 else 12) + length x.payload + length (digest_bytes x.digest)
 
--- The bytes are seen as these fields, with some header.
+-- The bytes are seen as these fields, with some header in which every spare bit is 0.
 abbrev pub IsSeenAs : Fields → List ℕ → Type 0
-IsSeenAs x bytes = (header : List ℕ) × (view_of bytes ≡ Whole (record x { header = header }))
+IsSeenAs x bytes =
+    (header : List ℕ) × (view_of bytes ≡ Whole (record x { header = header })) × (value (spare_bits (layout_of x.kind) x.wide) header ≡ 0)
 
 -- Where there is no room, nothing is changed. Else a TLP with these fields stands at the front, and the rest is as before.
 abbrev pub Encodes : Fields → List ℕ → Option ℕ → List ℕ → Type 0
@@ -41,6 +42,7 @@ pub record IsFirstDw (x : Fields) (dw : List ℕ) : Type 0 where
   pub th : (rest : List ℕ) → is_set th_bits (dw ++ rest) ≡ x.th
   pub length : (rest : List ℕ) → length_of (dw ++ rest) ≡ x.length
   pub digest : (rest : List ℕ) → is_set td_bits (dw ++ rest) ≡ is_some x.digest
+  pub ln : (rest : List ℕ) → value (bits 1 1 1) (dw ++ rest) ≡ 0
 
 -- the fields of a header alone
 abbrev pub bare : Fields → Fields
@@ -55,3 +57,4 @@ pub record IsHeader (x : Fields) (header : List ℕ) : Type 0 where
   pub length : (rest : List ℕ) → length_of (header ++ rest) ≡ x.length
   pub fields : (rest : List ℕ) → header_fields x.kind (header ++ rest) ≡ bare x
   pub digest : (rest : List ℕ) → is_set td_bits (header ++ rest) ≡ is_some x.digest
+  pub spare : (rest : List ℕ) → value (spare_bits (layout_of x.kind) x.wide) (header ++ rest) ≡ 0

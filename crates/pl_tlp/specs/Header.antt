@@ -92,3 +92,9 @@ byte_count_bits other = []
 abbrev pub lower_bits : Layout → List Place
 lower_bits Completion = bits 11 6 0
 lower_bits other = []
+
+-- The places that no field has: LN and the reserved bits, which are written as 0 and not looked at.
+abbrev pub spare_bits : Layout → Bool → List Place
+spare_bits Addressed wide = bits 1 1 1 ++ (if wide then bits 15 1 0 else bits 11 1 0)
+spare_bits Completion wide = bits 1 1 1 ++ bits 11 7 7
+spare_bits other wide = bits 1 1 1

@@ -107,6 +107,7 @@ fn configuration<'a>(header: &[u8], common: Tlp<'a>) -> Tlp<'a>
     }
 }
 
+/// A message.
 fn message<'a>(header: &[u8], common: Tlp<'a>) -> Tlp<'a>
     requires short { 12 ≤ length header.now }
     requires whole { spec.header_size header.now ≤ length header.now }
@@ -129,6 +130,7 @@ fn message<'a>(header: &[u8], common: Tlp<'a>) -> Tlp<'a>
     }
 }
 
+/// A completion.
 fn completion<'a>(header: &[u8], common: Tlp<'a>) -> Tlp<'a>
     requires { 12 ≤ length header.now }
     ensures { fields result ≡ record (fields common.entry) {

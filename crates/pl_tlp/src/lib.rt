@@ -18,3 +18,6 @@ pub use kind::Kind;
 pub use pl_base::Class;
 pub use reading::view;
 pub use tlp::{Cost, Tlp, View};
+
+#[cfg(test)]
+mod tests;
