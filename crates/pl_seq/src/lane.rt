@@ -206,10 +206,16 @@ impl Lane {
     {
         if let Some(place) = self.unacknowledged_original(number) {
             let (original, bytes) = self.retry.get(place);
-            add_if(found, bytes != tlp, Rule::S2, at, Some(original), None);
-            let out_of_turn = place != 0 && self.is_out_of_turn(number);
             let latest = self.latest_tlp.map(|latest| latest.at);
-            add_if(found, out_of_turn, Rule::S3, at, latest, Some(original));
+            let out_of_turn = place != 0 && self.is_out_of_turn(number);
+            // Each verdict goes to a place that is known, so the list costs a caller nothing that only asks
+            // whether a rule is broken.
+            if bytes != tlp {
+                add_if(found, true, Rule::S2, at, Some(original), None);
+                add_if(found, out_of_turn, Rule::S3, at, latest, Some(original));
+            } else {
+                add_if(found, out_of_turn, Rule::S3, at, latest, Some(original));
+            }
         }
         self.latest_tlp = Some(Latest {
             at,
