@@ -1,0 +1,74 @@
+//! Reads and writes that fail, and command lines that are none.
+use crate::desk::{Calls, EMPTY, check_by, damaged_ack, run_words};
+use std::alloc::{AllocError, Global};
+use std::test::Fail;
+
+#[test]
+fn a_read_fault_comes_after_the_lines_of_the_whole_items(rt: HostRuntime) -> Result<(), Fail> {
+    let capture = damaged_ack(rt.alloc())?;
+    let outcome = check_by(
+        rt.alloc(),
+        &capture,
+        Calls::failing(64, &[3]),
+        Calls::whole(),
+    )?;
+    assert!(rt;
+        outcome.is(7, "item 2 rule L2 first - second -\nread fault\n"),
+        "{outcome:?}"
+    );
+    Ok(())
+}
+
+#[test]
+fn nothing_is_written_after_a_write_fault(rt: HostRuntime) -> Result<(), Fail> {
+    let capture = damaged_ack(rt.alloc())?;
+    let outcome = check_by(
+        rt.alloc(),
+        &capture,
+        Calls::whole(),
+        Calls::failing(4096, &[2]),
+    )?;
+    assert!(rt;
+        outcome.is(8, "item 2 rule L2 first - second -\n"),
+        "{outcome:?}"
+    );
+    Ok(())
+}
+
+#[test]
+fn an_absent_capture_is_a_read_fault(rt: HostRuntime) -> Result<(), Fail> {
+    let outcome = run_words(
+        rt.alloc(),
+        &["check", "-", "absent"],
+        &EMPTY,
+        Calls::of(1),
+        Calls::of(1),
+    )?;
+    assert!(rt; outcome.is(7, "read fault\n"), "{outcome:?}");
+    Ok(())
+}
+
+/// Whether the program answers these words with the usage line.
+fn is_usage(alloc: Global, words: &[&str]) -> Result<bool, AllocError> {
+    let outcome = run_words(alloc, words, &EMPTY, Calls::of(1), Calls::of(1))?;
+    Ok(outcome.is(
+        2,
+        "usage: check PROFILE CAPTURE | list PROFILE CAPTURE FILTER | report PROFILE CAPTURE | trial NUMBER COUNT | serve ADDRESS STORE TURNS\n",
+    ))
+}
+
+#[test]
+fn words_that_are_no_command_get_the_usage_line(rt: HostRuntime) -> Result<(), Fail> {
+    assert!(rt; is_usage(rt.alloc(), &[])?, "no words");
+    assert!(rt; is_usage(rt.alloc(), &["check"])?, "one word");
+    assert!(rt; is_usage(rt.alloc(), &["check", "-"])?, "two words");
+    assert!(rt;
+        is_usage(rt.alloc(), &["check", "-", "capture", "x"])?,
+        "four words"
+    );
+    assert!(rt;
+        is_usage(rt.alloc(), &["Check", "-", "capture"])?,
+        "another word"
+    );
+    Ok(())
+}

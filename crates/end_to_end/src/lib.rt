@@ -1,0 +1,11 @@
+//! Captures through the whole program, over files and output in memory.
+#![tactic(auto)]
+
+#[cfg(test)]
+mod capture;
+#[cfg(test)]
+mod desk;
+#[cfg(test)]
+mod faults;
+#[cfg(test)]
+mod link;

@@ -1,0 +1,120 @@
+-- The words of a command, and what its status says.
+use Rattle.std.proofs.Common.{◌≡◌, ◌≢◌, ◌++◌, ◌+◌, ◌≤◌, ◌<◌, ◌==◌, ◌⊎◌, ◌^◌, inl, inr, List, ℕ, Bool, true, false, nat_lt, min, if◌then◌else◌, [], ◌∷◌, refl, ap, ◌∙◌, sym, subst, length, take, map, get_or, Bor, arith, Option, Some, None, IsSome}
+use Rattle.std.specs.Prelude.{codes, bytes_eq}
+use Rattle.std.proofs.lemmas.Slice.Eq.{bytes_eq-Decides}
+use Rattle.std.proofs.lemmas.Bool.{cases_eq, cases_lt}
+use Rattle.std.proofs.lemmas.List.{take_all}
+use Rattle.std.proofs.lemmas.Grind.{common_steps}
+use Rattle.std.proofs.lemmas.Bool.Decides.{nat_tests}
+use Rattle.pl_base.specs.declared.stop.Stop.{Stop}
+use Rattle.pl_base.specs.declared.stop.Stop.TheVariants.{Malformed, Unsupported, Outstanding, Unacknowledged, Memory}
+use Rattle.pl_base.specs.declared.verdict.Verdict.{Verdict}
+use Rattle.pl_capture.specs.Entry.{Entry}
+use Rattle.pl_capture.specs.Reading.{Reading, Ending, reading, Ended, Bad, Open}
+use Rattle.pl_io.specs.Faults.{Rose, last_count}
+use Rattle.pl_profile.specs.declared.profile.Profile.{Profile}
+use Rattle.pl_engine.specs.Verdicts.{accepted, refusal, verdicts_after}
+use Rattle.pl_cli.specs.Output.{Cause, AtEnd, AtRefusal, AtLimit, AtFault, How, Whole, TooLong, Fault, cause, cause_of, cause_of_ending, cause_status, how_of, items_judged, limit, status, status_of, stop_status, verdicts_of}
+use Rattle.pl_cli.specs.Words.{IsUnrisen, RunsCleanly}
+use Rattle.pl_cli.proofs.Lists.{accepted_all}
+
+-- a count that didn't rise
+pub not_risen : (before now : ℕ) → IsUnrisen before now → Rose before now → ⊥
+not_risen before now h rose = omega (arith, h.0, h.1, rose)
+
+-- a refusal has a status above 0
+stop_above : (s : Stop) → stop_status s ≡ 0 → ⊥
+stop_above (Malformed fault item) h = omega arith
+stop_above (Unsupported form item) h = omega arith
+stop_above (Outstanding count item) h = omega arith
+stop_above (Unacknowledged count item) h = omega arith
+stop_above Memory h = omega arith
+
+no_verdicts : (n : ℕ) (b : Bool) → b ≡ (n == 0) → (let answer : ℕ = if b then 0 else 1 in answer ≡ 0) → n ≡ 0
+no_verdicts n true e h = grind (arith, nat_tests, common_steps)
+no_verdicts n false e h = absurd (omega arith)
+
+-- what status 0 says of the cause
+at_end : (n : ℕ) (c : Cause) → cause_status n c ≡ 0 → (c ≡ AtEnd) × (n ≡ 0)
+at_end n AtEnd h = (refl, no_verdicts n (n == 0) refl h)
+at_end n (AtRefusal s) h = absurd (stop_above s h)
+at_end n AtLimit h = absurd (omega arith)
+at_end n AtFault h = absurd (omega arith)
+
+ending_is : (e : Ending) (how : How) → cause_of_ending e how ≡ AtEnd → (e ≡ Ended) × (how ≡ Whole)
+ending_is Ended Whole h = (refl, refl)
+ending_is Ended TooLong h = absurd cc
+ending_is Ended Fault h = absurd cc
+ending_is (Bad s) how h = absurd cc
+ending_is (Open place pending) Whole h = absurd cc
+ending_is (Open place pending) TooLong h = absurd cc
+ending_is (Open place pending) Fault h = absurd cc
+
+nothing_refused : (o : Option Stop) (e : Ending) (how : How) → cause_of o e how ≡ AtEnd → (o ≡ None) × (e ≡ Ended) × (how ≡ Whole)
+nothing_refused None e how h = let k = ending_is e how h in (refl, k.0, k.1)
+nothing_refused (Some s) e how h = absurd cc
+
+whole_file : (file : List ℕ) → how_of file ≡ Whole → length file ≤ limit
+whole_file file h = by (cases_lt limit (length file))
+  where
+    by : (limit < length file) ⊎ (length file ≤ limit) → length file ≤ limit
+    by (inl lt) = let e : how_of file ≡ TooLong = grind (arith, nat_tests, common_steps) in absurd (differ (sym e ∙ h))
+      where
+        differ : TooLong ≡ Whole → ⊥
+        differ k = cc
+    by (inr le) = le
+
+none_left : (xs : List Verdict) → length xs ≡ 0 → xs ≡ []
+none_left [] h = refl
+none_left (x ∷ xs) h = absurd (omega arith)
+
+-- status 0 for a whole file
+pub clean_file : (p : Profile) (file : List ℕ) → status_of p file ≡ 0 → RunsCleanly p file
+unfolding status
+clean_file p file h =
+    let r : Reading = reading (take limit file) in
+    let e = at_end (length (verdicts_of p r)) (cause p r (how_of file)) h in
+    let n = nothing_refused (refusal p [] r.items) r.ending (how_of file) e.0 in
+    let size : length file ≤ limit = whole_file file n.2 in
+    let same : reading (take limit file) ≡ reading file = ap reading (take_all limit file size) in
+    record {
+      size = size;
+      ended = ap (λ (x : Reading). x.ending) (sym same) ∙ n.1;
+      judged = ap (λ (x : Reading). refusal p [] x.items) (sym same) ∙ n.0;
+      clean = ap (λ (x : Reading). verdicts_after p [] x.items) (sym same)
+          ∙ ap (verdicts_after p []) (sym (accepted_all p [] r.items n.0)) ∙ none_left (verdicts_of p r) e.1;
+    }
+
+-- Three words of which the first is `check` are its command.
+pub words_check : (words : List (Bor (List ℕ))) (d : Bor (List ℕ)) (r : Bool) → length words ≡ 3 → r ≡ bytes_eq (get_or words 0 d).now (codes "check") → r ≡ true →
+    (profile : List ℕ) × (capture : List ℕ) × (map (λ (w : Bor (List ℕ)). w.now) words ≡ codes "check" ∷ profile ∷ capture ∷ [])
+words_check (a ∷ b ∷ c ∷ []) d r len e h =
+    let first : a.now ≡ codes "check" = (bytes_eq-Decides a.now (codes "check")).0 (sym e ∙ h) in
+    (b.now, c.now, ap (λ (l : List ℕ). l ∷ b.now ∷ c.now ∷ []) first)
+words_check [] d r len e h = absurd (omega arith)
+words_check (a ∷ []) d r len e h = absurd (omega arith)
+words_check (a ∷ b ∷ []) d r len e h = absurd (omega arith)
+words_check (a ∷ b ∷ c ∷ x ∷ more) d r len e h = absurd (omega arith)
+
+-- its operands
+pub operands : (words : List (Bor (List ℕ))) (d : Bor (List ℕ)) (profile capture : List ℕ) →
+    map (λ (w : Bor (List ℕ)). w.now) words ≡ codes "check" ∷ profile ∷ capture ∷ [] → ((get_or words 1 d).now ≡ profile) × ((get_or words 2 d).now ≡ capture)
+operands [] d profile capture h = absurd cc
+operands (a ∷ []) d profile capture h = absurd cc
+operands (a ∷ b ∷ []) d profile capture h = absurd cc
+operands (a ∷ b ∷ c ∷ []) d profile capture h = (cc, cc)
+operands (a ∷ b ∷ c ∷ x ∷ more) d profile capture h = absurd cc
+
+-- status 0 is none of the others
+pub above : {answer : ℕ} (n : ℕ) → answer ≡ 0 → answer ≢ n + 1
+above n is0 h = omega arith
+
+pub some_at : {T : Type 0} {a b : Option T} → a ≡ b → IsSome b → IsSome a
+some_at h s = subst IsSome (sym h) s
+
+pub complete_by : (answer : ℕ) (A : Type 0) (B : Type 0) → (answer ≡ 7 → ⊥) → (answer ≡ 8 → ⊥) → (answer ≢ 7 → answer ≢ 8 → answer ≢ 9 → A × B) → (answer ≡ 9) ⊎ (A × B)
+complete_by answer A B n7 n8 done = by (cases_eq answer 9)
+  where
+    by : (answer ≡ 9) ⊎ (answer ≡ 9 → ⊥) → (answer ≡ 9) ⊎ (A × B)
+    by (inl is9) = inl is9
+    by (inr n9) = inr (done n7 n8 n9)

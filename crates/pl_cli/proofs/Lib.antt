@@ -1,0 +1,14 @@
+pub mod Lists
+pub mod Texts
+pub mod Steps
+pub mod Known
+pub mod Refusals
+pub mod Longer
+pub mod Pieces
+pub mod Verdicts
+pub mod Files
+pub mod Ends
+pub mod Tops
+pub mod Profiles
+pub mod Sources
+pub mod Commands

@@ -1,0 +1,69 @@
+-- Judging goes on by one answer of the reader.
+use Rattle.std.proofs.Common.{◌≡◌, ◌++◌, ◌+◌, ◌≤◌, List, ℕ, [], ◌∷◌, refl, ap, ◌∙◌, sym, subst, length, append_assoc, append-nil, add_assoc, length-append, arith, Option, Some, None}
+use Rattle.pl_base.specs.declared.stop.Stop.{Stop}
+use Rattle.pl_base.specs.declared.verdict.Verdict.{Verdict}
+use Rattle.pl_io.specs.Told.{plus, HasRoom, Partly}
+use Rattle.pl_io.proofs.Told.{plus-plus}
+use Rattle.pl_capture.specs.Entry.{Entry}
+use Rattle.pl_capture.specs.Reading.{reading, Bad}
+use Rattle.pl_capture.specs.Standing as reader
+use Rattle.pl_profile.specs.declared.profile.Profile.{Profile}
+use Rattle.pl_engine.specs.Engine as engine
+use Rattle.pl_engine.specs.Verdicts.{blocked, history_after, refusal, verdicts_after, verdicts_at}
+use Rattle.pl_cli.specs.declared.judging.Judging.{Judging}
+use Rattle.pl_cli.specs.Output.{lines}
+use Rattle.pl_cli.specs.Progress.{verdicts_in, SoFar, Accepts}
+use Rattle.pl_cli.proofs.Lists.{history-append, refusal-append, verdicts-append}
+use Rattle.pl_cli.proofs.Texts.{lines-append}
+
+-- by an answer that gave no item
+pub so_far_on : {p : Profile} {k : engine.EngineKept} {w w1 : Option (List ℕ)} {r r1 : Option ℕ} {j : Judging} (before bytes : List ℕ) (j' : Judging) →
+    SoFar p before j k w w1 r r1 → (reading bytes).items ≡ (reading before).items → reader.StandsFor j'.reader bytes →
+    ((s : Stop) → (reading bytes).ending ≡ Bad s → ⊥) → j'.items ≡ j.items → j'.verdicts ≡ j.verdicts → SoFar p bytes j' k w w1 r r1
+so_far_on {p} {k} {w} {w1} {r} {r1} {j} before bytes j' f same stands goes i v =
+    let vs : verdicts_in p bytes ≡ verdicts_in p before = ap (verdicts_after p []) same in
+    record {
+      profile_is = f.profile_is;
+      reader_stands = stands;
+      goes_on = goes;
+      engine_stands = subst (λ (xs : List Entry). engine.StandsFor k (history_after [] xs)) (sym same) f.engine_stands;
+      accepted = ap (refusal p []) same ∙ f.accepted;
+      items = i ∙ f.items ∙ sym (ap (λ (xs : List Entry). length xs) same);
+      verdicts = v ∙ f.verdicts ∙ sym (ap (λ (xs : List Verdict). length xs) vs);
+      written = f.written ∙ sym (ap (λ (xs : List Verdict). plus w (lines xs)) vs);
+      room_left = λ n room. f.room_left n (subst (λ (xs : List Verdict). HasRoom r (length (lines xs) + n)) vs room);
+    }
+
+-- by an item that was judged
+pub so_far_item : {p : Profile} {k k' : engine.EngineKept} {w w1 w2 : Option (List ℕ)} {r r1 r2 : Option ℕ} {j j' : Judging} (before bytes : List ℕ) (x : Entry) (j1 : Judging) →
+    SoFar p before j k w w1 r r1 → (reading bytes).items ≡ (reading before).items ++ x ∷ [] → reader.StandsFor j'.reader bytes →
+    ((s : Stop) → (reading bytes).ending ≡ Bad s → ⊥) → j1.items ≡ j.items → j1.verdicts ≡ j.verdicts →
+    Accepts (history_after [] (reading before).items) x j1 j' k k' w1 w2 r1 r2 → SoFar p bytes j' k' w w2 r r2
+so_far_item {p} {k} {k'} {w} {w1} {w2} {r} {r1} {r2} {j} {j'} before bytes x j1 f more stands goes i v a =
+    let xs : List Entry = (reading before).items in
+    let past : List Entry = history_after [] xs in
+    let here : List Verdict = verdicts_at p past x in
+    let here_is : verdicts_at k.profile past x ≡ here = ap (λ (q : Profile). verdicts_at q past x) f.profile_is in
+    let vs : verdicts_in p bytes ≡ verdicts_in p before ++ here =
+    ap (verdicts_after p []) more ∙ verdicts-append p [] xs (x ∷ []) ∙ ap (λ (l : List Verdict). verdicts_after p [] xs ++ l) (append-nil here) in
+    let ls : lines (verdicts_in p bytes) ≡ lines (verdicts_in p before) ++ lines here = ap lines vs ∙ lines-append (verdicts_in p before) here in
+    record {
+      profile_is = a.profile_is ∙ f.profile_is;
+      reader_stands = stands;
+      goes_on = goes;
+      engine_stands = subst (engine.StandsFor k') (sym (ap (history_after []) more ∙ history-append [] xs (x ∷ []))) a.engine_stands;
+      accepted = ap (refusal p []) more ∙ refusal-append p [] xs (x ∷ []) f.accepted ∙ no_more p past x (ap (λ (q : Profile). blocked q past x) (sym f.profile_is) ∙ a.allowed);
+      items = a.items ∙ ap (λ (n : ℕ). n + 1) (i ∙ f.items) ∙ sym (ap (λ (l : List Entry). length l) more ∙ length-append xs (x ∷ []));
+      verdicts = a.verdicts ∙ ap (λ (n : ℕ). n + length (verdicts_at k.profile past x)) (v ∙ f.verdicts)
+          ∙ ap (λ (l : List Verdict). length (verdicts_in p before) + length l) here_is
+          ∙ sym (ap (λ (l : List Verdict). length l) vs ∙ length-append (verdicts_in p before) here);
+      written = a.written ∙ ap (λ (l : List Verdict). plus w1 (lines l)) here_is ∙ ap (λ (o : Option (List ℕ)). plus o (lines here)) f.written
+          ∙ plus-plus w (lines (verdicts_in p before)) (lines here) ∙ sym (ap (plus w) ls);
+      room_left = λ n room. a.room_left n (subst (λ (l : List Verdict). HasRoom r1 (length (lines l) + n)) (sym here_is)
+          (f.room_left (length (lines here) + n) (subst (HasRoom r)
+          (ap (λ (l : List ℕ). length l + n) ls ∙ ap (λ (m : ℕ). m + n) (length-append (lines (verdicts_in p before)) (lines here))
+          ∙ add_assoc (length (lines (verdicts_in p before))) (length (lines here)) n) room)));
+    }
+  where
+    no_more : (p : Profile) (past : List Entry) (x : Entry) → blocked p past x ≡ None → refusal p past (x ∷ []) ≡ None
+    no_more p past x h = ap (λ o. Rattle.pl_engine.specs.Verdicts.refuse o (Rattle.pl_engine.specs.Verdicts.number_after past) None) h

@@ -1,0 +1,20 @@
+use Rattle.std.proofs.Common.{◌≡◌, ◌≤◌, ◌+◌, ◌*◌, ◌-◌, ◌++◌, ℕ, List, length, take, Option}
+use Rattle.pl_profile.specs.declared.profile.Profile.{Profile}
+use Rattle.pl_cli.specs.Progress.{SoFar}
+use Rattle.pl_cli.proofs.capture.judge_piece.Given as goal
+
+abbrev pub invariant-loop-place : goal.invariant-loop-place
+invariant-loop-place g l = record {
+  bound : l.place ≤ length l.piece;
+  so_far : (p : Profile) (before : List ℕ) (w : Option (List ℕ)) (r : Option ℕ) →
+      SoFar p before l.initial.judging l.initial.engine w (g.O.Sink.written l.initial.out) r (g.O.Sink.room l.initial.out) →
+      SoFar p (before ++ take l.place l.piece) l.judging l.engine w (g.O.Sink.written l.out) r (g.O.Sink.room l.out);
+  reader : l.judging.reader.place ≤ l.initial.judging.reader.place + l.place;
+  items : l.judging.items ≤ l.initial.judging.items + l.place;
+  engine : l.engine.items ≤ l.initial.engine.items + l.place;
+  verdicts : l.judging.verdicts ≤ l.judging.items * 32;
+  kept : g.O.Sink.faults l.out ≡ g.O.Sink.faults l.initial.out;
+}
+
+abbrev pub decreases-loop-place : goal.decreases-loop-place
+decreases-loop-place g l = length l.initial.piece - l.place

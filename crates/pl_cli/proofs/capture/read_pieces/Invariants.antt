@@ -1,0 +1,26 @@
+use Rattle.std.proofs.Common.{◌≡◌, ◌≤◌, ◌*◌, ◌-◌, ◌^◌, ℕ, [], length, true}
+use Rattle.pl_profile.specs.declared.profile.Profile.{Profile}
+use Rattle.pl_cli.specs.Progress.{SoFar}
+use Rattle.pl_cli.proofs.Files.{Far}
+use Rattle.pl_cli.proofs.capture.read_pieces.Given as goal
+
+abbrev pub invariant-loop-taken : goal.invariant-loop-taken
+invariant-loop-taken g l = record {
+  bound : l.taken ≤ 2 ^ 40;
+  buffer : length l.buffer ≡ 4096;
+  far : (p : Profile) →
+      SoFar p [] l.initial.judging l.initial.engine (g.O.Sink.written l.initial.out) (g.O.Sink.written l.initial.out) (g.O.Sink.room l.initial.out) (g.O.Sink.room l.initial.out) →
+      Far p l.judging l.engine (g.O.Sink.written l.initial.out) (g.O.Sink.written l.out) (g.O.Sink.room l.initial.out) (g.O.Sink.room l.out)
+      (g.H.Shelf.rest l.initial.shelf) (g.H.Shelf.rest l.shelf) l.taken;
+  place : l.judging.reader.place ≤ l.taken;
+  items : l.judging.items ≤ l.taken;
+  engine : l.engine.items ≤ l.taken;
+  verdicts : l.judging.verdicts ≤ l.judging.items * 32;
+  opened : g.H.Shelf.is_open l.shelf ≡ true;
+  sure : g.H.Shelf.sure l.initial.shelf ≡ true → g.H.Shelf.sure l.shelf ≡ true;
+  shelf_kept : g.H.Shelf.faults l.shelf ≡ g.H.Shelf.faults l.initial.shelf;
+  kept : g.O.Sink.faults l.out ≡ g.O.Sink.faults l.initial.out;
+}
+
+abbrev pub decreases-loop-taken : goal.decreases-loop-taken
+decreases-loop-taken g l = 2 ^ 40 - l.taken

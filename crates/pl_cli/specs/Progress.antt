@@ -1,0 +1,196 @@
+-- How far judging has come, whatever comes after.
+use Rattle.std.specs.Prelude.{◌≡◌, ◌≢◌, ℕ, ◌+◌, ◌<◌, ◌≤◌, Bool, true, false, List, [], ◌∷◌, ◌++◌, length, Option, Some, None, Result, Ok, Err}
+use Rattle.pl_base.specs.declared.stop.Stop.{Stop}
+use Rattle.pl_base.specs.declared.verdict.Verdict.{Verdict}
+use Rattle.pl_io.specs.declared.failed.Failed.{Failed}
+use Rattle.pl_io.specs.Faults.{Rose}
+use Rattle.pl_io.specs.Told.{plus, ahead, HasRoom, Partly}
+use Rattle.pl_io.specs.Told as told
+use Rattle.pl_capture.specs.Entry.{Entry}
+use Rattle.pl_capture.specs.Reading.{reading, Ending, Bad}
+use Rattle.pl_capture.specs.Standing as reader
+use Rattle.pl_capture.specs.declared.step.Step.{Step}
+use Rattle.pl_capture.specs.declared.step.Step.TheVariants as step
+use Rattle.pl_profile.specs.declared.profile.Profile.{Profile}
+use Rattle.pl_engine.specs.declared.refused.Refused.{Refused}
+use Rattle.pl_engine.specs.Engine as engine
+use Rattle.pl_engine.specs.Verdicts.{blocked, history_after, number_after, refusal, stop_of, verdicts_after, verdicts_at}
+use Rattle.pl_cli.specs.declared.judging.Judging.{Judging}
+use Rattle.pl_cli.specs.declared.judging.Ended.{Ended}
+use Rattle.pl_cli.specs.declared.judging.Ended.TheVariants as ended
+use Rattle.pl_cli.specs.Output.{Cause, AtEnd, AtRefusal, AtLimit, AtFault, How, items_judged, limit, lines, status, stop_status, text}
+use Rattle.pl_report.specs.Lines.{stop_text}
+
+-- what the items of these bytes break
+abbrev pub verdicts_in : Profile → List ℕ → List Verdict
+verdicts_in profile bytes = verdicts_after profile [] (reading bytes).items
+
+-- All whole items of these bytes were judged, nothing is refused yet, and the lines are written. The sink had
+-- written `old` and had the room `old_room` before.
+pub record SoFar (profile : Profile) (bytes : List ℕ) (judging : Judging) (kept : engine.EngineKept)
+    (old new : Option (List ℕ)) (old_room new_room : Option ℕ) : Type 0 where
+  pub profile_is : kept.profile ≡ profile
+  pub reader_stands : reader.StandsFor judging.reader bytes
+  pub goes_on : (s : Stop) → (reading bytes).ending ≡ Bad s → ⊥
+  pub engine_stands : engine.StandsFor kept (history_after [] (reading bytes).items)
+  pub accepted : refusal profile [] (reading bytes).items ≡ None
+  pub items : judging.items ≡ length (reading bytes).items
+  pub verdicts : judging.verdicts ≡ length (verdicts_in profile bytes)
+  pub written : new ≡ plus old (lines (verdicts_in profile bytes))
+  pub room_left : (k : ℕ) → HasRoom old_room (length (lines (verdicts_in profile bytes)) + k) → HasRoom new_room k
+
+-- The capture is refused within these bytes: the lines before the refusal are written.
+pub record RefusedIn (profile : Profile) (bytes : List ℕ) (s : Stop) (kept : engine.EngineKept)
+    (old new : Option (List ℕ)) (old_room new_room : Option ℕ) : Type 0 where
+  pub known : stop_status s ≤ 6
+  pub before : List ℕ
+  pub written : new ≡ plus old before
+  pub room_left : (k : ℕ) → HasRoom old_room (length before + k) → HasRoom new_room k
+  pub same_text : (more : List ℕ) (how : How) → text profile (reading (bytes ++ more)) how ≡ before ++ stop_text s
+  pub same_status : (more : List ℕ) (how : How) → status profile (reading (bytes ++ more)) how ≡ stop_status s
+  pub engine_stands : (more : List ℕ) → engine.StandsFor kept (history_after [] (items_judged profile (reading (bytes ++ more))))
+
+-- The sink failed within the lines of these bytes: a part of the text was written, and the room was too small.
+pub record CutIn (profile : Profile) (bytes : List ℕ) (old new : Option (List ℕ)) (old_room : Option ℕ) : Type 0 where
+  pub part : (more : List ℕ) (how : How) → Partly old new (text profile (reading (bytes ++ more)) how)
+  pub no_room : (more : List ℕ) (how : How) → HasRoom old_room (length (text profile (reading (bytes ++ more)) how)) → ⊥
+
+-- What an item leads to. It is judged, and its lines are written.
+pub record Accepts (past : List Entry) (x : Entry) (judging judging' : Judging) (kept kept' : engine.EngineKept)
+    (old new : Option (List ℕ)) (old_room new_room : Option ℕ) : Type 0 where
+  pub profile_is : kept'.profile ≡ kept.profile
+  pub allowed : blocked kept.profile past x ≡ None
+  pub engine_stands : engine.StandsFor kept' (x ∷ past)
+  pub items : judging'.items ≡ judging.items + 1
+  pub verdicts : judging'.verdicts ≡ judging.verdicts + length (verdicts_at kept.profile past x)
+  pub written : new ≡ plus old (lines (verdicts_at kept.profile past x))
+  pub room_left : (k : ℕ) → HasRoom old_room (length (lines (verdicts_at kept.profile past x)) + k) → HasRoom new_room k
+
+-- Or the engine refuses it.
+pub record Blocks (past : List Entry) (x : Entry) (s : Stop) (kept kept' : engine.EngineKept)
+    (old new : Option (List ℕ)) (old_room new_room : Option ℕ) : Type 0 where
+  pub same_engine : kept' ≡ kept
+  pub refused : Refused
+  pub is_blocked : blocked kept.profile past x ≡ Some refused
+  pub stop_is : s ≡ stop_of refused (number_after past)
+  pub same_written : new ≡ old
+  pub same_room : new_room ≡ old_room
+
+-- Or the sink fails within its lines.
+pub record Loses (past : List Entry) (x : Entry) (kept : engine.EngineKept) (old new : Option (List ℕ)) (old_room : Option ℕ) : Type 0 where
+  pub allowed : blocked kept.profile past x ≡ None
+  pub part : Partly old new (lines (verdicts_at kept.profile past x))
+  pub no_room : HasRoom old_room (length (lines (verdicts_at kept.profile past x))) → ⊥
+
+abbrev pub ItemJudged : List Entry → Entry → Result (Option Stop) Failed → Judging → Judging → engine.EngineKept → engine.EngineKept
+    → Option (List ℕ) → Option (List ℕ) → Option ℕ → Option ℕ → Type 0
+ItemJudged past x (Ok None) j j' k k' old new old_room new_room = Accepts past x j j' k k' old new old_room new_room
+ItemJudged past x (Ok (Some s)) j j' k k' old new old_room new_room = Blocks past x s k k' old new old_room new_room
+ItemJudged past x (Err failed) j j' k k' old new old_room new_room = Loses past x k old new old_room
+
+-- What a piece leads to, with the bytes before it.
+abbrev pub PieceJudged : Profile → List ℕ → Result (Option Stop) Failed → Judging → engine.EngineKept
+    → Option (List ℕ) → Option (List ℕ) → Option ℕ → Option ℕ → Type 0
+PieceJudged p bytes (Ok None) j k old new old_room new_room = SoFar p bytes j k old new old_room new_room
+PieceJudged p bytes (Ok (Some s)) j k old new old_room new_room = RefusedIn p bytes s k old new old_room new_room
+PieceJudged p bytes (Err failed) j k old new old_room new_room = CutIn p bytes old new old_room
+
+-- Why no more of a file is read: these bytes were read of it and judged, and `extra` bytes past the limit were seen.
+abbrev pub EndsAs : Profile → Ended → List ℕ → List ℕ → Option (List ℕ) → Judging → engine.EngineKept
+    → Option (List ℕ) → Option (List ℕ) → Option ℕ → Option ℕ → Type 0
+EndsAs p ended.Whole read extra rest j k old new old_room new_room =
+    (extra ≡ []) × told.AtEnd rest × SoFar p read j k old new old_room new_room
+EndsAs p ended.Fault read extra rest j k old new old_room new_room =
+    (extra ≡ []) × SoFar p read j k old new old_room new_room
+EndsAs p ended.TooLong read extra rest j k old new old_room new_room =
+    (length read ≡ limit) × (0 < length extra) × SoFar p read j k old new old_room new_room
+EndsAs p (ended.Refused s) read extra rest j k old new old_room new_room =
+    (extra ≡ []) × RefusedIn p read s k old new old_room new_room
+
+pub record Reads (profile : Profile) (ended : Ended) (judging : Judging) (kept : engine.EngineKept)
+    (old new : Option (List ℕ)) (old_room new_room : Option ℕ) (rest rest' : Option (List ℕ)) : Type 0 where
+  pub read : List ℕ
+  pub extra : List ℕ
+  pub size : length read ≤ limit
+  pub rest_is : rest ≡ ahead (read ++ extra) rest'
+  pub ends : EndsAs profile ended read extra rest' judging kept old new old_room new_room
+
+pub record ReadsCut (profile : Profile) (old new : Option (List ℕ)) (old_room : Option ℕ) (rest rest' : Option (List ℕ)) : Type 0 where
+  pub read : List ℕ
+  pub size : length read ≤ limit
+  pub rest_is : rest ≡ ahead read rest'
+  pub cut : CutIn profile read old new old_room
+
+abbrev pub ReadJudged : Profile → Result Ended Failed → Judging → engine.EngineKept
+    → Option (List ℕ) → Option (List ℕ) → Option ℕ → Option ℕ → Option (List ℕ) → Option (List ℕ) → Type 0
+ReadJudged p (Ok ended) j k old new old_room new_room rest rest' = Reads p ended j k old new old_room new_room rest rest'
+ReadJudged p (Err failed) j k old new old_room new_room rest rest' = ReadsCut p old new old_room rest rest'
+
+abbrev pub is_fault : Ended → Bool
+is_fault ended.Whole = false
+is_fault ended.Fault = true
+is_fault ended.TooLong = false
+is_fault (ended.Refused s) = false
+
+-- What was read of a file that the shelf may tell, from its opening on.
+pub record Taken (profile : Profile) (ended : Ended) (judging : Judging) (kept : engine.EngineKept)
+    (old new : Option (List ℕ)) (old_room new_room : Option ℕ) (told : Bool) (file : Option (List ℕ)) (opened : Bool) (rest : Option (List ℕ)) : Type 0 where
+  pub read : List ℕ
+  pub extra : List ℕ
+  pub size : length read ≤ limit
+  pub from_file : told ≡ true → opened ≡ true → file ≡ ahead (read ++ extra) rest
+  pub nothing : opened ≡ false → (read ≡ []) × (is_fault ended ≡ true)
+  pub ends : EndsAs profile ended read extra rest judging kept old new old_room new_room
+
+pub record TakenCut (profile : Profile) (old new : Option (List ℕ)) (old_room : Option ℕ) (told : Bool) (file rest : Option (List ℕ)) : Type 0 where
+  pub read : List ℕ
+  pub size : length read ≤ limit
+  pub from_file : told ≡ true → file ≡ ahead read rest
+  pub cut : CutIn profile read old new old_room
+
+-- a fault of the shelf is answered only where it was counted, and nothing else is counted
+abbrev pub ShelfCause : Ended → ℕ → ℕ → Type 0
+ShelfCause ended.Whole before now = now ≡ before
+ShelfCause ended.Fault before now = Rose before now
+ShelfCause ended.TooLong before now = now ≡ before
+ShelfCause (ended.Refused s) before now = now ≡ before
+
+-- Why judging ended, by what the reader says at the end.
+abbrev pub cause_of_step : Step → Cause
+cause_of_step step.More = AtEnd
+cause_of_step (step.Item used) = AtEnd
+cause_of_step (step.End used) = AtEnd
+cause_of_step (step.Bad s) = AtRefusal s
+
+abbrev pub last_cause : Ended → reader.Standing → Cause
+last_cause ended.Whole standing = cause_of_step (reader.finished_step standing.place standing.phase)
+last_cause ended.Fault standing = AtFault
+last_cause ended.TooLong standing = AtLimit
+last_cause (ended.Refused s) standing = AtRefusal s
+
+-- the last line was written, or a part of it for which there was no room
+pub record Closed (old new : Option (List ℕ)) (room : Option ℕ) (last : List ℕ) (status answer : ℕ) : Type 0 where
+  pub done : answer ≢ 8 → (new ≡ plus old last) × (answer ≡ status)
+  pub part : answer ≡ 8 → Partly old new last
+  pub no_room : answer ≡ 8 → HasRoom room (length last) → ⊥
+
+-- These bytes were read of the file: they and the rest that the shelf tells are the file, and there are none
+-- where the file couldn't be opened.
+pub record ReadOf (file : List ℕ) (opened : Bool) (rest : Option (List ℕ)) (read : List ℕ) : Type 0 where
+  pub from_file : opened ≡ true → Some file ≡ ahead read rest
+  pub nothing : opened ≡ false → read ≡ []
+
+abbrev pub nothing_judged : Judging
+nothing_judged = record { reader = reader.start; items = 0; verdicts = 0 }
+
+abbrev pub CaptureJudged : Profile → Result Ended Failed → Judging → engine.EngineKept
+    → Option (List ℕ) → Option (List ℕ) → Option ℕ → Option ℕ → Bool → Option (List ℕ) → Bool → Option (List ℕ) → Type 0
+CaptureJudged p (Ok e) j k old new old_room new_room told file opened rest = Taken p e j k old new old_room new_room told file opened rest
+CaptureJudged p (Err failed) j k old new old_room new_room told file opened rest = TakenCut p old new old_room told file rest
+
+-- what a look behind the most bytes that are judged finds
+abbrev pub LooksBehind : Ended → List ℕ → Option (List ℕ) → Type 0
+LooksBehind ended.Whole extra rest = (extra ≡ []) × told.AtEnd rest
+LooksBehind ended.Fault extra rest = extra ≡ []
+LooksBehind ended.TooLong extra rest = 0 < length extra
+LooksBehind (ended.Refused s) extra rest = ⊥

@@ -1,0 +1,202 @@
+//! Reads a capture in pieces, judges each item as soon as it is whole and writes its verdicts.
+ghost use Rattle.std.specs.Prelude.{◌≡◌, ◌≢◌, ◌+◌, ◌*◌, ◌<◌, ◌≤◌, ◌^◌, ◌++◌, List, [], ℕ, Bool, true, false, Some, None, length, take, Option, IfOk, OnOk, OnErr, IsOk, IsSome};
+ghost use Rattle.pl_io.specs.Faults.{HasCause};
+ghost use Rattle.pl_io.specs.Told.{plus, ahead, AtEnd, HasRoom, Partly};
+ghost use Rattle.pl_capture.specs.Entry.{Entry};
+ghost use Rattle.pl_capture.specs.Standing.{Holding};
+ghost use Rattle.pl_engine.specs.Engine.{StandsFor};
+ghost use Rattle.pl_engine.specs.Verdicts.{stop_of};
+ghost use Rattle.pl_profile.specs.declared.profile.Profile.{Profile};
+ghost use Rattle.pl_cli.specs.Output.{limit, lines};
+ghost use Rattle.pl_cli.specs.Progress.{ItemJudged, LooksBehind, PieceJudged, ReadJudged, ShelfCause, SoFar, is_fault};
+
+use crate::judging::{Ended, Judging};
+use pl_base::{Form, Found, Stop};
+use pl_capture::Step;
+use pl_engine::{Engine, Refused};
+use pl_io::{Failed, Shelf, Sink, write_all};
+use pl_report::verdict_line;
+
+/// The bytes of a capture that are judged at most.
+const MOST_BYTES: usize = 1 << 40;
+
+/// Reads and judges the open capture, piece by piece. Err where the sink failed.
+pub(crate) fn read_pieces<H: Shelf, O: Sink>(
+    judging: &mut Judging,
+    engine: &mut Engine,
+    shelf: &mut H,
+    out: &mut O,
+) -> Result<Ended, Failed>
+    requires opened { H.is_open shelf.old ≡ true }
+    requires place { judging.old.reader.place ≡ 0 }
+    requires items { judging.old.items ≡ 0 }
+    requires verdicts { judging.old.verdicts ≡ 0 }
+    requires engine { engine.old.items ≡ 0 }
+    ensures judged { (p : Profile) → SoFar p [] judging.old engine.old (O.written out.old) (O.written out.old) (O.room out.old) (O.room out.old) →
+        ReadJudged p result judging.new engine.new (O.written out.old) (O.written out.new) (O.room out.old) (O.room out.new) (H.rest shelf.old) (H.rest shelf.new) }
+    ensures opened { H.is_open shelf.new ≡ true }
+    ensures never_fails { H.sure shelf.old ≡ true → IfOk result (λ ended. is_fault ended ≡ false) }
+    ensures shelf_cause { IfOk result (λ ended. ShelfCause ended (H.faults shelf.old) (H.faults shelf.new)) }
+    ensures shelf_kept { OnErr result (H.faults shelf.new ≡ H.faults shelf.old) }
+    ensures cause { HasCause (O.faults out.old) (O.faults out.new) result }
+{
+    let mut buffer = [0; 4096];
+    let mut taken = 0;
+    while taken < MOST_BYTES {
+        let most = (MOST_BYTES - taken).min(buffer.len());
+        let count = match read_front(shelf, &mut buffer, most) {
+            Ok(count) => count,
+            Err(_) => return Ok(Ended::Fault),
+        };
+        if count == 0 {
+            return Ok(Ended::Whole);
+        }
+        taken += count;
+        match judge_piece(judging, engine, &buffer[..count], out) {
+            Ok(None) => {}
+            Ok(Some(stop)) => return Ok(Ended::Refused(stop)),
+            Err(failed) => return Err(failed),
+        }
+    }
+    Ok(look_behind(shelf, &mut buffer))
+}
+
+/// Reads into the front of the buffer.
+pub(crate) fn read_front<H: Shelf>(
+    shelf: &mut H,
+    buffer: &mut [u8],
+    most: usize,
+) -> Result<usize, Failed>
+    requires opened { H.is_open shelf.old ≡ true }
+    requires some { 0 < most }
+    requires inside { most ≤ length buffer.old }
+    ensures opened { H.is_open shelf.new ≡ true }
+    ensures most { IfOk result (λ n. n ≤ most) }
+    ensures bytes { IfOk result (λ n. H.rest shelf.old ≡ ahead (take n buffer.new) (H.rest shelf.new)) }
+    ensures end { IfOk result (λ n. n ≡ 0 → AtEnd (H.rest shelf.old)) }
+    ensures err { OnErr result (H.rest shelf.new ≡ H.rest shelf.old) }
+    ensures still_told { H.told shelf.new ≡ H.told shelf.old }
+    ensures files { (other : List ℕ) → H.file shelf.new other ≡ H.file shelf.old other }
+    ensures never_fails { H.sure shelf.old ≡ true → IsOk result }
+    ensures still_sure { OnOk result (H.sure shelf.old ≡ true → H.sure shelf.new ≡ true) }
+    ensures cause { HasCause (H.faults shelf.old) (H.faults shelf.new) result }
+{
+    shelf.read(&mut buffer[..most])
+}
+
+/// Whether a byte stands behind the most bytes that are judged.
+fn look_behind<H: Shelf>(shelf: &mut H, buffer: &mut [u8]) -> Ended
+    requires opened { H.is_open shelf.old ≡ true }
+    requires some { 0 < length buffer.old }
+    ensures opened { H.is_open shelf.new ≡ true }
+    ensures bytes { (extra : List ℕ) × (H.rest shelf.old ≡ ahead extra (H.rest shelf.new)) × LooksBehind result extra (H.rest shelf.new) }
+    ensures never_fails { H.sure shelf.old ≡ true → is_fault result ≡ false }
+    ensures cause { ShelfCause result (H.faults shelf.old) (H.faults shelf.new) }
+{
+    match read_front(shelf, buffer, 1) {
+        Ok(0) => Ended::Whole,
+        Ok(_) => Ended::TooLong,
+        Err(_) => Ended::Fault,
+    }
+}
+
+/// Judges the items that become whole in a piece, up to a refusal.
+fn judge_piece<O: Sink>(
+    judging: &mut Judging,
+    engine: &mut Engine,
+    piece: &[u8],
+    out: &mut O,
+) -> Result<Option<Stop>, Failed>
+    requires place { judging.old.reader.place + length piece.now < 2 ^ 58 }
+    requires items { judging.old.items + length piece.now < 2 ^ 58 }
+    requires verdicts { judging.old.verdicts ≤ judging.old.items * 32 }
+    requires engine { engine.old.items + length piece.now < 2 ^ 58 }
+    ensures judged { (p : Profile) (before : List ℕ) (w : Option (List ℕ)) (r : Option ℕ) →
+        SoFar p before judging.old engine.old w (O.written out.old) r (O.room out.old) →
+        PieceJudged p (before ++ piece.now) result judging.new engine.new w (O.written out.new) r (O.room out.new) }
+    ensures place { OnOk result (judging.new.reader.place ≤ judging.old.reader.place + length piece.now) }
+    ensures items { OnOk result (judging.new.items ≤ judging.old.items + length piece.now) }
+    ensures verdicts { OnOk result (judging.new.verdicts ≤ judging.new.items * 32) }
+    ensures engine { OnOk result (engine.new.items ≤ engine.old.items + length piece.now) }
+    ensures cause { HasCause (O.faults out.old) (O.faults out.new) result }
+{
+    let mut place = 0;
+    while place < piece.len() {
+        match judging.reader.feed(&piece[place..]) {
+            Step::More => return Ok(None),
+            Step::End { used } => place += used,
+            Step::Bad(stop) => return Ok(Some(stop)),
+            Step::Item { used } => {
+                place += used;
+                match judge_item(judging, engine, out) {
+                    Ok(None) => {}
+                    Ok(Some(stop)) => return Ok(Some(stop)),
+                    Err(failed) => return Err(failed),
+                }
+            }
+        }
+    }
+    Ok(None)
+}
+
+/// Judges the item that the reader lends, and writes its verdicts. Some where the engine refuses it.
+fn judge_item<O: Sink>(
+    judging: &mut Judging,
+    engine: &mut Engine,
+    out: &mut O,
+) -> Result<Option<Stop>, Failed>
+    requires holds { (x : Entry) × (judging.old.reader.phase ≡ Holding x) }
+    requires items { judging.old.items < 2 ^ 58 }
+    requires verdicts { judging.old.verdicts ≤ judging.old.items * 32 }
+    requires engine { engine.old.items < 2 ^ 58 }
+    ensures judged { (past : List Entry) (x : Entry) → judging.old.reader.phase ≡ Holding x → StandsFor engine.old past → judging.old.items ≡ length past →
+        ItemJudged past x result judging.old judging.new engine.old engine.new (O.written out.old) (O.written out.new) (O.room out.old) (O.room out.new) }
+    ensures reader { judging.new.reader ≡ judging.old.reader }
+    ensures items { judging.new.items ≤ judging.old.items + 1 }
+    ensures verdicts { judging.new.verdicts ≤ judging.new.items * 32 }
+    ensures engine { engine.new.items ≤ engine.old.items + 1 }
+    ensures cause { HasCause (O.faults out.old) (O.faults out.new) result }
+{
+    let item = match judging.reader.item() {
+        Some(item) => item,
+        None => unreachable!(),
+    };
+    match engine.feed(&item) {
+        Ok(found) => {
+            judging.count(found.len());
+            match write_verdicts(&found, out) {
+                Ok(()) => Ok(None),
+                Err(failed) => Err(failed),
+            }
+        }
+        Err(refused) => Ok(Some(stop_at(refused, judging.items + 1))),
+    }
+}
+
+/// A refusal of the engine, with the number of the item that isn't judged.
+fn stop_at(refused: Refused, number: u64) -> Stop
+    ensures { result ≡ stop_of refused number }
+{
+    match refused {
+        Refused::Outstanding(limit) => Stop::Outstanding(limit, number),
+        Refused::Unacknowledged(limit) => Stop::Unacknowledged(limit, number),
+        Refused::TenBitTag => Stop::Unsupported(Form::TenBitTag, number),
+    }
+}
+
+/// Writes the lines of an item's verdicts.
+fn write_verdicts<O: Sink>(found: &Found, out: &mut O) -> Result<(), Failed>
+    ensures appended { OnOk result (O.written out.new ≡ plus (O.written out.old) (lines found.now.items)) }
+    ensures part { OnErr result (Partly (O.written out.old) (O.written out.new) (lines found.now.items)) }
+    ensures fits { HasRoom (O.room out.old) (length (lines found.now.items)) → IsOk result }
+    ensures room_left { OnOk result ((k : ℕ) → HasRoom (O.room out.old) (length (lines found.now.items) + k) → HasRoom (O.room out.new) k) }
+    ensures cause { HasCause (O.faults out.old) (O.faults out.new) result }
+{
+    for verdict in found.as_slice() {
+        match write_all(out, verdict_line(verdict).as_bytes()) {
+            Ok(()) => {}
+            Err(failed) => return Err(failed),
+        }
+    }
+    Ok(())
+}

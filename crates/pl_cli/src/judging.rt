@@ -1,0 +1,52 @@
+//! How far the judging of a capture has come.
+ghost use Rattle.std.specs.Prelude.{◌≡◌, ◌+◌, ◌*◌, ◌<◌, ◌≤◌, ◌^◌};
+
+use pl_base::Stop;
+use pl_capture::Reader;
+
+/// The reader, and the counts of the items that were judged and of their verdicts.
+#[derive(Drop)]
+pub(crate) struct Judging {
+    pub(crate) reader: Reader,
+    pub(crate) items: u64,
+    pub(crate) verdicts: u64,
+}
+
+impl Judging {
+    ghost use Rattle.pl_cli.specs.Progress.{nothing_judged};
+
+    /// Nothing was read yet.
+    pub(crate) fn new() -> Judging
+        ensures { result ≡ nothing_judged }
+    {
+        Judging {
+            reader: Reader::new(),
+            items: 0,
+            verdicts: 0,
+        }
+    }
+
+    /// Counts an item and its verdicts.
+    pub(crate) fn count(&mut self, verdicts: usize)
+        requires few { self.old.items < 2 ^ 58 }
+        requires verdicts { verdicts ≤ 32 }
+        requires at_most_32_each { self.old.verdicts ≤ self.old.items * 32 }
+        ensures { self.new ≡ record self.old { items = self.old.items + 1; verdicts = self.old.verdicts + verdicts } }
+    {
+        self.verdicts += verdicts as u64;
+        self.items += 1;
+    }
+}
+
+/// Why no more of a capture is read.
+#[derive(Clone, Copy)]
+pub(crate) enum Ended {
+    /// It was read to its end.
+    Whole,
+    /// A read failed, or the capture couldn't be opened.
+    Fault,
+    /// As many bytes were read as are judged at most, and there are more.
+    TooLong,
+    /// The reader refused a record, or the engine an item.
+    Refused(Stop),
+}

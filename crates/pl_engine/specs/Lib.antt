@@ -1,0 +1,4 @@
+pub mod State
+pub mod Link
+pub mod Verdicts
+pub mod Engine

@@ -1,0 +1,15 @@
+//! The engine: what each item of a capture breaks, one item after another, in memory that is taken once.
+#![tactic(auto)]
+
+mod engine;
+mod link;
+mod refused;
+mod state;
+
+pub use engine::Engine;
+pub use pl_base::Body;
+pub use refused::Refused;
+pub use state::body;
+
+#[cfg(test)]
+mod tests;
