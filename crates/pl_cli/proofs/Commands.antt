@@ -1,5 +1,5 @@
 -- The words of a command, and what its status says.
-use Rattle.std.proofs.Common.{◌≡◌, ◌≢◌, ◌++◌, ◌+◌, ◌≤◌, ◌<◌, ◌==◌, ◌⊎◌, ◌^◌, inl, inr, List, ℕ, Bool, true, false, nat_lt, min, if◌then◌else◌, [], ◌∷◌, refl, ap, ◌∙◌, sym, subst, length, take, map, get_or, Bor, arith, Option, Some, None, IsSome}
+use Rattle.std.proofs.Common.{◌≡◌, ◌≢◌, ◌+◌, ◌≤◌, ◌<◌, ◌==◌, ◌⊎◌, inl, inr, List, ℕ, Bool, true, false, if◌then◌else◌, [], ◌∷◌, refl, ap, ◌∙◌, sym, subst, length, take, map, get_or, Bor, arith, Option, Some, None, IsSome}
 use Rattle.std.specs.Prelude.{codes, bytes_eq}
 use Rattle.std.proofs.lemmas.Slice.Eq.{bytes_eq-Decides}
 use Rattle.std.proofs.lemmas.Bool.{cases_eq, cases_lt}
@@ -9,12 +9,11 @@ use Rattle.std.proofs.lemmas.Bool.Decides.{nat_tests}
 use Rattle.pl_base.specs.declared.stop.Stop.{Stop}
 use Rattle.pl_base.specs.declared.stop.Stop.TheVariants.{Malformed, Unsupported, Outstanding, Unacknowledged, Memory}
 use Rattle.pl_base.specs.declared.verdict.Verdict.{Verdict}
-use Rattle.pl_capture.specs.Entry.{Entry}
 use Rattle.pl_capture.specs.Reading.{Reading, Ending, reading, Ended, Bad, Open}
-use Rattle.pl_io.specs.Faults.{Rose, last_count}
+use Rattle.pl_io.specs.Faults.{Rose}
 use Rattle.pl_profile.specs.declared.profile.Profile.{Profile}
-use Rattle.pl_engine.specs.Verdicts.{accepted, refusal, verdicts_after}
-use Rattle.pl_cli.specs.Output.{Cause, AtEnd, AtRefusal, AtLimit, AtFault, How, Whole, TooLong, Fault, cause, cause_of, cause_of_ending, cause_status, how_of, items_judged, limit, status, status_of, stop_status, verdicts_of}
+use Rattle.pl_engine.specs.Verdicts.{refusal, verdicts_after}
+use Rattle.pl_cli.specs.Output.{Cause, AtEnd, AtRefusal, AtLimit, AtFault, How, Whole, TooLong, Fault, cause, cause_of, cause_of_ending, cause_status, how_of, limit, status, status_of, stop_status, verdicts_of}
 use Rattle.pl_cli.specs.Words.{IsUnrisen, RunsCleanly}
 use Rattle.pl_cli.proofs.Lists.{accepted_all}
 

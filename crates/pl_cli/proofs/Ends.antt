@@ -1,27 +1,21 @@
 -- From what was read of a file to the output for the whole file.
-use Rattle.std.proofs.Common.{◌≡◌, ◌≢◌, ◌++◌, ◌+◌, ◌-◌, ◌≤◌, ◌<◌, ◌^◌, nat_lt, if◌then◌else◌, List, ℕ, Bool, true, false, [], ◌∷◌, refl, ap, ◌∙◌, sym, subst, length, take, append_assoc, append-nil, length-append, arith, Option, Some, None}
+use Rattle.std.proofs.Common.{◌≡◌, ◌++◌, ◌+◌, ◌-◌, ◌≤◌, ◌<◌, List, ℕ, false, [], refl, ap, ◌∙◌, sym, subst, length, take, append_assoc, append-nil, length-append, arith, Option, Some, None}
 use Rattle.std.proofs.Math.Seq.{take-append-add}
 use Rattle.std.proofs.lemmas.List.{take_all, take_at}
 use Rattle.std.proofs.lemmas.Grind.{common_steps}
 use Rattle.std.proofs.lemmas.Bool.Decides.{nat_tests}
 use Rattle.pl_base.specs.declared.stop.Stop.{Stop}
-use Rattle.pl_base.specs.declared.stop.Stop.TheVariants.{Malformed}
-use Rattle.pl_base.specs.declared.stop.Malformed.TheVariants.{Truncated}
-use Rattle.pl_base.specs.declared.verdict.Verdict.{Verdict}
 use Rattle.pl_io.specs.Told.{plus, ahead, HasRoom, Partly}
-use Rattle.pl_io.specs.Told as told
-use Rattle.pl_io.proofs.Told.{plus-plus}
 use Rattle.pl_capture.specs.Entry.{Entry}
 use Rattle.pl_capture.specs.Reading.{Reading, Ending, reading, Ended, Bad, Open}
-use Rattle.pl_capture.specs.Standing.{Standing, StandsFor, Phase, Waiting, Holding, Done, Stopped, Shows, finished_step}
+use Rattle.pl_capture.specs.Standing.{Phase, Waiting, Holding, Done, Stopped, Shows, finished_step}
 use Rattle.pl_profile.specs.declared.profile.Profile.{Profile}
 use Rattle.pl_engine.specs.Engine as engine
-use Rattle.pl_engine.specs.Verdicts.{history_after, refusal, verdicts_after}
-use Rattle.pl_report.specs.Lines.{stop_text}
+use Rattle.pl_engine.specs.Verdicts.{history_after}
 use Rattle.pl_cli.specs.declared.judging.Judging.{Judging}
 use Rattle.pl_cli.specs.declared.judging.Ended as declared
 use Rattle.pl_cli.specs.declared.judging.Ended.TheVariants as ended
-use Rattle.pl_cli.specs.Output.{Cause, AtEnd, AtRefusal, AtLimit, AtFault, How, Whole, TooLong, Fault, cause_of_ending, cause_status, cut, how_of, items_judged, last_text, limit, lines, output, status, status_of, stop_status, text}
+use Rattle.pl_cli.specs.Output.{Cause, AtRefusal, AtLimit, AtFault, How, Whole, TooLong, Fault, cause_of_ending, cause_status, cut, how_of, items_judged, last_text, limit, lines, output, status, status_of, text}
 use Rattle.pl_cli.specs.Progress.{verdicts_in, SoFar, RefusedIn, CutIn, EndsAs, is_fault, cause_of_step, last_cause}
 use Rattle.pl_cli.proofs.Lists.{accepted_all}
 use Rattle.pl_cli.proofs.Texts.{all_judged, text_by, status_by}

@@ -1,5 +1,5 @@
 -- Reading a file piece by piece.
-use Rattle.std.proofs.Common.{◌≡◌, ◌++◌, ◌+◌, ◌≤◌, ◌<◌, List, ℕ, [], ◌∷◌, refl, ap, ◌∙◌, sym, subst, length, take, append-nil, length-append, arith, Option, Some, None, Bool, true, false, IsSome}
+use Rattle.std.proofs.Common.{◌≡◌, ◌++◌, ◌+◌, ◌≤◌, List, ℕ, [], refl, ap, ◌∙◌, sym, subst, length, append-nil, length-append, arith, Option, Some, None, Bool, true, false, IsSome}
 use Rattle.pl_base.specs.declared.stop.Stop.{Stop}
 use Rattle.pl_io.specs.Told.{ahead, AtEnd}
 use Rattle.pl_io.proofs.Told.{ahead-ahead}
@@ -9,7 +9,7 @@ use Rattle.pl_cli.specs.declared.judging.Judging.{Judging}
 use Rattle.pl_cli.specs.declared.judging.Ended.{Ended}
 use Rattle.pl_cli.specs.declared.judging.Ended.TheVariants as ended
 use Rattle.pl_cli.specs.Output.{limit}
-use Rattle.pl_cli.specs.Progress.{CutIn, EndsAs, LooksBehind, Reads, ReadsCut, RefusedIn, SoFar, Taken, TakenCut, is_fault}
+use Rattle.pl_cli.specs.Progress.{CutIn, EndsAs, LooksBehind, Reads, ReadsCut, RefusedIn, SoFar, Taken, TakenCut}
 
 -- so many bytes were read and judged
 pub record Far (p : Profile) (j : Judging) (k : engine.EngineKept) (w w1 : Option (List ℕ)) (r r1 : Option ℕ) (rest rest' : Option (List ℕ)) (taken : ℕ) : Type 0 where

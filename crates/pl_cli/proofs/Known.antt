@@ -1,12 +1,12 @@
 -- The status of each refusal is known: none is want of memory.
-use Rattle.std.proofs.Common.{◌≡◌, ◌≢◌, ℕ, zero, suc, ◌+◌, ◌-◌, ◌==◌, ◌<◌, ◌≤◌, List, [], ◌∷◌, length, take, drop, Option, Some, None, Bool, true, false, refl, sym, ap, subst, ◌∙◌, arith, inl, inr, if◌then◌else◌}
+use Rattle.std.proofs.Common.{◌≡◌, ℕ, zero, suc, ◌+◌, ◌==◌, ◌≤◌, List, length, take, drop, Some, Bool, true, false, sym, ap, subst, ◌∙◌, arith, inl, inr, if◌then◌else◌}
 use Rattle.std.proofs.lemmas.Bool.{cases_lt}
 use Rattle.std.proofs.lemmas.List.{length-drop}
 use Rattle.pl_base.specs.declared.stop.Stop.{Stop}
 use Rattle.pl_base.specs.declared.stop.Stop.TheVariants.{Malformed}
 use Rattle.pl_base.specs.declared.stop.Malformed.TheVariants.{Trailing}
-use Rattle.pl_capture.specs.Front.{front_at, header_fault}
-use Rattle.pl_capture.specs.Reading.{Reading, Ending, reading, Ended, Bad, Open, ends, records_behind}
+use Rattle.pl_capture.specs.Front.{header_fault}
+use Rattle.pl_capture.specs.Reading.{Reading, reading, Bad, records_behind}
 use Rattle.pl_capture.specs.Standing.{Phase, Waiting, Holding, Done, Stopped, Shows, finished_step}
 use Rattle.pl_capture.proofs.Fronts.{seen, partial, refused, whole, last, front_short, wanted_least}
 use Rattle.pl_capture.proofs.Records.{records_partial, records_refused, records_whole, records_ended, records_trailing}

@@ -1,5 +1,5 @@
 -- The reading of a longer text, and what the reader's answers say of judging.
-use Rattle.std.proofs.Common.{◌≡◌, ◌++◌, ◌+◌, ◌≤◌, ◌<◌, List, ℕ, suc, [], ◌∷◌, refl, ap, ◌∙◌, sym, subst, length, append-nil, arith, Option, Some, None}
+use Rattle.std.proofs.Common.{◌≡◌, ◌++◌, List, ℕ, [], ◌∷◌, refl, ap, ◌∙◌, sym, subst, append-nil, arith}
 use Rattle.pl_base.specs.declared.stop.Stop.{Stop}
 use Rattle.pl_capture.specs.Entry.{Entry}
 use Rattle.pl_capture.specs.Reading.{Reading, Ending, reading, Ended, Bad, Open}

@@ -1,7 +1,7 @@
 -- Judging goes on within a piece: by each answer of the reader.
-use Rattle.std.proofs.Common.{◌≡◌, ◌++◌, ◌+◌, ◌-◌, ◌≤◌, ◌<◌, List, ℕ, suc, [], ◌∷◌, refl, ap, ◌∙◌, sym, subst, length, take, drop, append_assoc, append-nil, arith, Option, Some, None}
+use Rattle.std.proofs.Common.{◌≡◌, ◌++◌, ◌+◌, ◌≤◌, List, ℕ, [], ◌∷◌, refl, ap, ◌∙◌, sym, subst, length, take, drop, append_assoc, append-nil, arith, Option}
 use Rattle.std.proofs.Math.Seq.{take-add}
-use Rattle.std.proofs.lemmas.List.{take-append-drop, take_all, take_rest}
+use Rattle.std.proofs.lemmas.List.{take-append-drop, take_all}
 use Rattle.pl_base.specs.declared.stop.Stop.{Stop}
 use Rattle.pl_capture.specs.Entry.{Entry}
 use Rattle.pl_capture.specs.Reading.{reading}

@@ -1,9 +1,9 @@
 -- The text of a profile, and what it names.
-use Rattle.std.proofs.Common.{◌≡◌, ◌≢◌, ◌++◌, ◌+◌, ◌≤◌, ◌<◌, ◌⊎◌, inl, inr, List, ℕ, [], nat_lt, Bool, if◌then◌else◌, refl, ap, ◌∙◌, sym, length, append-nil, length-append, arith, subst, Option, Some, None, Result, Ok, Err}
+use Rattle.std.proofs.Common.{◌≡◌, ◌≢◌, ◌++◌, ◌+◌, ◌≤◌, ◌<◌, ◌⊎◌, inl, inr, List, ℕ, [], Bool, refl, ap, ◌∙◌, sym, length, append-nil, length-append, arith, subst, Option, Some, Result, Ok, Err}
 use Rattle.std.proofs.lemmas.Grind.{common_steps}
 use Rattle.std.proofs.lemmas.Bool.Decides.{nat_tests}
 use Rattle.pl_io.specs.Faults.{Rose}
-use Rattle.pl_io.specs.Told.{plus, ahead, AtEnd, Partly}
+use Rattle.pl_io.specs.Told.{plus, AtEnd, Partly}
 use Rattle.pl_profile.specs.declared.error.ProfileError.{ProfileError}
 use Rattle.pl_profile.specs.declared.error.ProfileError.TheVariants.{NotToml, UnknownKey, WrongType, OutOfRange, TooLong, Memory}
 use Rattle.pl_profile.specs.declared.profile.Profile.{Profile}

@@ -1,5 +1,5 @@
 -- Judging stops: at a refusal of the reader or the engine, or at a sink that fails.
-use Rattle.std.proofs.Common.{◌≡◌, ◌++◌, ◌+◌, ◌≤◌, List, ℕ, [], ◌∷◌, refl, ap, ◌∙◌, sym, subst, length, append_assoc, append-nil, add_assoc, length-append, arith, Option, Some, None}
+use Rattle.std.proofs.Common.{◌≡◌, ◌++◌, ◌+◌, ◌≤◌, List, ℕ, [], ◌∷◌, ap, ◌∙◌, sym, subst, length, append_assoc, length-append, arith, Option, Some, None}
 use Rattle.pl_base.specs.declared.stop.Stop.{Stop}
 use Rattle.pl_base.specs.declared.verdict.Verdict.{Verdict}
 use Rattle.pl_io.specs.Told.{plus, HasRoom, Partly}
@@ -7,9 +7,8 @@ use Rattle.pl_io.proofs.Told.{plus-plus}
 use Rattle.pl_capture.specs.Entry.{Entry}
 use Rattle.pl_capture.specs.Reading.{Reading, Ending, reading, Bad}
 use Rattle.pl_profile.specs.declared.profile.Profile.{Profile}
-use Rattle.pl_engine.specs.declared.refused.Refused.{Refused}
 use Rattle.pl_engine.specs.Engine as engine
-use Rattle.pl_engine.specs.Verdicts.{blocked, history_after, number_after, refusal, stop_of, verdicts_after, verdicts_at}
+use Rattle.pl_engine.specs.Verdicts.{blocked, history_after, number_after, refusal, verdicts_after, verdicts_at}
 use Rattle.pl_report.specs.Lines.{stop_text}
 use Rattle.pl_cli.specs.declared.judging.Judging.{Judging}
 use Rattle.pl_cli.specs.Output.{Cause, How, cause_of_ending, items_judged, lines, status, stop_status, text}

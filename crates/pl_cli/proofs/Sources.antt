@@ -1,5 +1,5 @@
 -- The clauses of `check`, by what became of its profile.
-use Rattle.std.proofs.Common.{◌≡◌, ◌≢◌, ◌++◌, ◌+◌, ◌≤◌, ◌⊎◌, inl, inr, List, ℕ, Bool, true, false, [], refl, ap, ◌∙◌, sym, subst, length, arith, Option, Some, None, IsSome, Result, Ok, Err}
+use Rattle.std.proofs.Common.{◌≡◌, ◌≢◌, ◌⊎◌, inl, inr, List, ℕ, refl, ap, ◌∙◌, sym, subst, arith, Option, Some, None, IsSome, Result, Ok, Err}
 use Rattle.pl_io.specs.Faults.{Rose}
 use Rattle.pl_io.specs.Told.{plus, Partly}
 use Rattle.pl_profile.specs.Refusal.{number_of}
@@ -9,9 +9,7 @@ use Rattle.pl_profile.specs.declared.profile.Profile.{Profile}
 use Rattle.pl_report.specs.Lines.{profile_error_text, read_fault_text}
 use Rattle.pl_cli.specs.declared.profile.NoProfile.{NoProfile}
 use Rattle.pl_cli.specs.declared.profile.NoProfile.TheVariants.{Unreadable, Refused}
-use Rattle.pl_cli.specs.Output.{cut, output}
-use Rattle.pl_cli.specs.Progress.{ReadOf}
-use Rattle.pl_cli.specs.Source.{IsNamed, IsReadable, ProfileCause, Refuses, RefusesProfile, TextAndStatus}
+use Rattle.pl_cli.specs.Source.{IsNamed, IsReadable, ProfileCause, RefusesProfile, TextAndStatus}
 
 -- what became of a profile that can't be had: the status and what is written
 pub data Lacking (source : Option (Result Profile ProfileError)) (old new : Option (List ℕ)) (answer before now : ℕ) (named readable : Type 0) : Type 1 where

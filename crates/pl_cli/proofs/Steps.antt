@@ -1,8 +1,8 @@
 -- Judging goes on by one answer of the reader.
-use Rattle.std.proofs.Common.{◌≡◌, ◌++◌, ◌+◌, ◌≤◌, List, ℕ, [], ◌∷◌, refl, ap, ◌∙◌, sym, subst, length, append_assoc, append-nil, add_assoc, length-append, arith, Option, Some, None}
+use Rattle.std.proofs.Common.{◌≡◌, ◌++◌, ◌+◌, List, ℕ, [], ◌∷◌, ap, ◌∙◌, sym, subst, length, append-nil, add_assoc, length-append, Option, None}
 use Rattle.pl_base.specs.declared.stop.Stop.{Stop}
 use Rattle.pl_base.specs.declared.verdict.Verdict.{Verdict}
-use Rattle.pl_io.specs.Told.{plus, HasRoom, Partly}
+use Rattle.pl_io.specs.Told.{plus, HasRoom}
 use Rattle.pl_io.proofs.Told.{plus-plus}
 use Rattle.pl_capture.specs.Entry.{Entry}
 use Rattle.pl_capture.specs.Reading.{reading, Bad}

@@ -1,17 +1,16 @@
 -- What is written and answered for a reading, by what the engine makes of its items.
-use Rattle.std.proofs.Common.{◌≡◌, ◌++◌, ◌+◌, List, ℕ, [], ◌∷◌, refl, ap, ◌∙◌, sym, length, append_assoc, append-nil, Option, Some, None}
-use Rattle.std.specs.List.{flat_map}
+use Rattle.std.proofs.Common.{◌≡◌, ◌++◌, List, ℕ, [], ◌∷◌, refl, ap, ◌∙◌, length, append_assoc, append-nil, Some, None}
 use Rattle.std.proofs.lemmas.List.Concat.{flat_map-append}
 use Rattle.pl_base.specs.declared.stop.Stop.{Stop}
 use Rattle.pl_base.specs.declared.verdict.Verdict.{Verdict}
 use Rattle.pl_capture.specs.Entry.{Entry}
-use Rattle.pl_capture.specs.Reading.{Reading, Ending, Bad}
+use Rattle.pl_capture.specs.Reading.{Reading}
 use Rattle.pl_profile.specs.declared.profile.Profile.{Profile}
 use Rattle.pl_engine.specs.declared.refused.Refused.{Refused}
 use Rattle.pl_engine.specs.Verdicts.{accept, accepted, blocked, history_after, number_after, refusal, refuse, stop_of, verdicts_after, verdicts_at}
 use Rattle.pl_report.specs.Lines.{stop_text, verdict_text}
-use Rattle.pl_cli.specs.Output.{How, Cause, AtRefusal, cause_of, cause_of_ending, cause_status, items_judged, last_text, lines, status, stop_status, text, verdicts_of}
-use Rattle.pl_cli.proofs.Lists.{accepted-append, accepted_all, history-append, refusal-append, verdicts-append}
+use Rattle.pl_cli.specs.Output.{How, Cause, AtRefusal, cause_of, cause_of_ending, cause_status, items_judged, last_text, lines, status, stop_status, text}
+use Rattle.pl_cli.proofs.Lists.{accepted-append, accepted_all, refusal-append, verdicts-append}
 
 pub lines-append : (a b : List Verdict) → lines (a ++ b) ≡ lines a ++ lines b
 lines-append a b = flat_map-append verdict_text a b

@@ -12,7 +12,7 @@ use Rattle.pl_engine.specs.Verdicts.{history_after, refusal, verdicts_after}
 use Rattle.pl_cli.specs.declared.judging.Judging.{Judging}
 use Rattle.pl_cli.specs.declared.judging.Ended as declared
 use Rattle.pl_cli.specs.declared.judging.Ended.TheVariants as ended
-use Rattle.pl_cli.specs.Output.{Cause, AtFault, cause_status, cut, items_judged, last_text, limit, lines, output, status_of}
+use Rattle.pl_cli.specs.Output.{AtFault, cause_status, cut, items_judged, last_text, limit, lines, output, status_of}
 use Rattle.pl_cli.specs.Progress.{Closed, EndsAs, ReadOf, ShelfCause, SoFar, Taken, TakenCut, is_fault, last_cause, nothing_judged, verdicts_in}
 use Rattle.pl_cli.proofs.Known.{end_known}
 use Rattle.pl_cli.proofs.Ends.{Finishes, cut_part, fault_text, finishes, rest_told}

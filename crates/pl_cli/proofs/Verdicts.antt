@@ -1,5 +1,5 @@
 -- The lines of an item's verdicts, one after another.
-use Rattle.std.proofs.Common.{◌≡◌, ◌++◌, ◌+◌, ◌≤◌, ◌<◌, List, ℕ, suc, [], ◌∷◌, Bool, true, false, refl, ap, ◌∙◌, sym, subst, length, take, drop, get_or, drop-cons, add-one, append_assoc, length-append, arith, Option}
+use Rattle.std.proofs.Common.{◌≡◌, ◌++◌, ◌+◌, ◌<◌, List, ℕ, suc, ap, ◌∙◌, sym, subst, length, take, drop, get_or, drop-cons, length-append, arith, Option}
 use Rattle.std.proofs.lemmas.List.{take-append-drop}
 use Rattle.pl_base.specs.declared.verdict.Verdict.{Verdict}
 use Rattle.pl_io.specs.Told.{plus, HasRoom, Partly}

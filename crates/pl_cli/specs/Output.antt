@@ -1,5 +1,5 @@
 -- What the program writes about the bytes of a capture, and the status that it answers.
-use Rattle.std.specs.Prelude.{◌≡◌, ℕ, ◌^◌, ◌==◌, nat_lt, List, [], ◌++◌, length, take, Option, Some, None, if◌then◌else◌}
+use Rattle.std.specs.Prelude.{ℕ, ◌^◌, ◌==◌, nat_lt, List, [], ◌++◌, length, take, Option, Some, None, if◌then◌else◌}
 use Rattle.std.specs.List.{flat_map}
 use Rattle.pl_base.specs.declared.stop.Malformed.TheVariants.{Truncated}
 use Rattle.pl_base.specs.declared.stop.Stop.{Stop}

@@ -7,7 +7,7 @@ use Rattle.pl_io.specs.Faults.{Rose}
 use Rattle.pl_io.specs.Told.{plus, ahead, HasRoom, Partly}
 use Rattle.pl_io.specs.Told as told
 use Rattle.pl_capture.specs.Entry.{Entry}
-use Rattle.pl_capture.specs.Reading.{reading, Ending, Bad}
+use Rattle.pl_capture.specs.Reading.{reading, Bad}
 use Rattle.pl_capture.specs.Standing as reader
 use Rattle.pl_capture.specs.declared.step.Step.{Step}
 use Rattle.pl_capture.specs.declared.step.Step.TheVariants as step

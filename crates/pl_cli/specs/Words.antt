@@ -1,6 +1,5 @@
 -- The words of the command line, and what a clean run says.
-use Rattle.std.specs.Prelude.{◌≡◌, ◌≢◌, ℕ, ◌<◌, ◌≤◌, List, [], ◌∷◌, codes, length, take, Option, None}
-use Rattle.pl_capture.specs.Entry.{Entry}
+use Rattle.std.specs.Prelude.{◌≡◌, ℕ, ◌<◌, ◌≤◌, List, [], ◌∷◌, codes, length, None}
 use Rattle.pl_capture.specs.Reading.{reading, Ended}
 use Rattle.pl_io.specs.Faults.{last_count}
 use Rattle.pl_profile.specs.declared.profile.Profile.{Profile}

@@ -1,5 +1,5 @@
 -- The verdicts of a capture. A history is the list of the items so far, newest first.
-use Rattle.std.specs.Prelude.{ℕ, ◌+◌, Bool, true, false, List, [], ◌∷◌, ◌++◌, length, Option, Some, None}
+use Rattle.std.specs.Prelude.{ℕ, ◌+◌, List, [], ◌∷◌, ◌++◌, length, Option, Some, None}
 use Rattle.pl_base.specs.declared.stop.Form.TheVariants as form
 use Rattle.pl_base.specs.declared.stop.Stop.{Stop}
 use Rattle.pl_base.specs.declared.stop.Stop.TheVariants as stop

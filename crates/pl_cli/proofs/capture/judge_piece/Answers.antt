@@ -1,5 +1,5 @@
-use Rattle.std.proofs.Common.{◌≡◌, ◌++◌, ◌+◌, ◌∙◌, List, ℕ, arith, ap, drop, length, length-drop, take, rules}
-use Rattle.std.proofs.lemmas.List.{take_all, take_rest}
+use Rattle.std.proofs.Common.{◌++◌, ◌+◌, ◌∙◌, arith, ap, drop, length-drop, take, rules}
+use Rattle.std.proofs.lemmas.List.{take_rest}
 use Rattle.pl_cli.proofs.Pieces.{all_behind, all_on, part_on, piece_bad, piece_blocked, piece_done, piece_end, piece_item, piece_lost, piece_more, so_far_start}
 use Rattle.pl_cli.proofs.capture.judge_piece.Goals as goal
 

@@ -1,4 +1,4 @@
-use Rattle.std.proofs.Common.{◌≡◌, ◌++◌, ◌+◌, ◌≤◌, ◌∙◌, List, ℕ, [], arith, length, length-take, refl, take, rules, ap}
+use Rattle.std.proofs.Common.{◌∙◌, ℕ, [], arith, length-take, refl, take, rules, ap}
 use Rattle.pl_io.specs.Told.{ahead}
 use Rattle.pl_cli.specs.declared.judging.Ended.TheVariants as ended
 use Rattle.pl_cli.proofs.Files.{behind_ends, end_rest, far_cut, far_ends, far_on, far_refused, far_start, same_rest}

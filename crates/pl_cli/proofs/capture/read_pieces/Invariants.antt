@@ -1,4 +1,4 @@
-use Rattle.std.proofs.Common.{◌≡◌, ◌≤◌, ◌*◌, ◌-◌, ◌^◌, ℕ, [], length, true}
+use Rattle.std.proofs.Common.{◌≡◌, ◌≤◌, ◌*◌, ◌-◌, ◌^◌, [], length, true}
 use Rattle.pl_profile.specs.declared.profile.Profile.{Profile}
 use Rattle.pl_cli.specs.Progress.{SoFar}
 use Rattle.pl_cli.proofs.Files.{Far}

@@ -1,4 +1,4 @@
-use Rattle.std.proofs.Common.{◌≡◌, ◌+◌, ℕ, List, length, take, Option}
+use Rattle.std.proofs.Common.{◌≡◌, ◌+◌, ℕ, length, take}
 use Rattle.pl_io.specs.Told.{plus, HasRoom}
 use Rattle.pl_cli.specs.Output.{lines}
 use Rattle.pl_cli.proofs.capture.write_verdicts.Given as goal

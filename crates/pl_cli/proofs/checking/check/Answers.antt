@@ -1,4 +1,4 @@
-use Rattle.std.proofs.Common.{◌≡◌, ◌∙◌, ap, inl, inr, subst, sym, length, List, ℕ}
+use Rattle.std.proofs.Common.{◌∙◌, ap, inl, inr, subst, sym, length, ℕ}
 use Rattle.pl_io.specs.Faults.{Rose}
 use Rattle.pl_io.specs.Told.{plus, HasRoom}
 use Rattle.pl_cli.specs.Output.{output, status_of}

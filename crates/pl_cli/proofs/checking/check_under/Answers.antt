@@ -1,6 +1,6 @@
-use Rattle.std.proofs.Common.{◌≡◌, ◌≢◌, ◌∙◌, List, ℕ, ap, subst, sym, length}
+use Rattle.std.proofs.Common.{◌∙◌, ap, subst, sym, length}
 use Rattle.pl_io.specs.Told.{plus, HasRoom}
-use Rattle.pl_cli.specs.Output.{cut, output, status_of}
+use Rattle.pl_cli.specs.Output.{output, status_of}
 use Rattle.pl_cli.proofs.Profiles.{cut_under, not_nine, part_under}
 use Rattle.pl_cli.proofs.checking.check_under.Goals as goal
 

@@ -1,4 +1,4 @@
-use Rattle.std.proofs.Common.{◌≡◌, ◌≢◌, ◌∙◌, ◌⊎◌, inl, inr, ap, subst, sym, refl, List, ℕ, Option, IsSome, not}
+use Rattle.std.proofs.Common.{◌∙◌, ap, sym, not}
 use Rattle.pl_cli.specs.Source.{profile_under}
 use Rattle.pl_cli.proofs.Commands.{above, clean_file, complete_by, not_risen, operands, some_at}
 use Rattle.pl_cli.proofs.command_line.run.Goals as goal

@@ -1,5 +1,4 @@
 use Rattle.std.proofs.Common.{◌≡◌, ◌≤◌, ◌-◌, ℕ, List, length, true}
-use Rattle.std.specs.Prelude.{vec_len}
 use Rattle.pl_io.specs.Told.{ahead}
 use Rattle.pl_cli.proofs.profile.read_text.Given as goal
 

@@ -1,4 +1,4 @@
-use Rattle.std.proofs.Common.{◌≡◌, ◌≢◌, ◌∙◌, sym, subst, refl, inl, IsSome, ap}
+use Rattle.std.proofs.Common.{◌∙◌, sym, subst, refl, inl, IsSome}
 use Rattle.pl_cli.proofs.Tops.{cause_kept, cause_rose, not_fault, top_cut, top_exact, top_known, top_lost, top_part, top_room}
 use Rattle.pl_cli.proofs.with_engine.check_with.Goals as goal
 

@@ -1,4 +1,3 @@
-use Rattle.std.proofs.Common.{◌≡◌, ap, refl, sym, subst, ◌∙◌}
 use Rattle.pl_cli.proofs.Files.{taken_cut, taken_nothing, taken_reads}
 use Rattle.pl_cli.proofs.Tops.{so_far_nothing}
 use Rattle.pl_cli.proofs.with_engine.read_capture.Goals as goal
