@@ -93,7 +93,8 @@ abbrev pub lower_bits : Layout → List Place
 lower_bits Completion = bits 11 6 0
 lower_bits other = []
 
--- The places that no field has: LN and the reserved bits, which are written as 0 and not looked at.
+-- The places that no field has: LN, the reserved bits, and the two bits below the address of a memory or I/O request.
+-- They are not looked at, and written as 0.
 abbrev pub spare_bits : Layout → Bool → List Place
 spare_bits Addressed wide = bits 1 1 1 ++ (if wide then bits 15 1 0 else bits 11 1 0)
 spare_bits Completion wide = bits 1 1 1 ++ bits 11 7 7
