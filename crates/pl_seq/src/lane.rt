@@ -1,10 +1,10 @@
 //! The lane of one direction: which TLPs are taken, repeated and acknowledged in the span, and which TLPs,
 //! Acks and Naks break L1 and S1 to S5.
 //! PCI Express Base Specification 5.0, chapter 3: the data link layer's sequence numbers, Ack and Nak.
-ghost use Rattle.std.specs.Prelude.{◌≡◌, ◌≢◌, ◌+◌, ◌<◌, ◌≤◌, ◌↔◌, ℕ, List, [], ◌∷◌, ◌++◌, Some, None, IfOk, IfSome, IsTrue, drop, is_some, length, slice_get};
+ghost use Rattle.std.specs.Prelude.{◌≡◌, ◌≢◌, ◌+◌, ◌<◌, ◌≤◌, ◌↔◌, List, [], ◌∷◌, IfOk, IfSome, IsTrue, drop, is_some, length, slice_get};
 ghost use Rattle.arrayvec.specs.ArrayVec.{array_vec_len};
-ghost use Rattle.pl_seq.specs.History.{Event, Ack, Tlp, answered, latest_taken, latest_tlp, newly_answered, next, original, original_place, place_after, place_of, taken, unacknowledged};
-ghost use Rattle.pl_seq.specs.Rules.{breaks_S4, is_out_of_turn, lane_verdicts, position_of, position_of_latest, repeats_unacknowledged, verdict_if};
+ghost use Rattle.pl_seq.specs.History.{Event, Ack, Tlp, answered, newly_answered, original, original_place, place_after, place_of, unacknowledged};
+ghost use Rattle.pl_seq.specs.Rules.{is_out_of_turn, lane_verdicts, position_of, repeats_unacknowledged};
 ghost use Rattle.pl_seq.specs.Lane.{StandsFor, latest_position};
 
 use crate::number::{advance, behind, previous};
@@ -21,6 +21,18 @@ pub struct Latest {
     pub at: u64,
     pub number: u16,
     pub body: Body,
+}
+
+impl Latest {
+    fn whole(at: u64, number: u16) -> Latest
+        ensures { result ≡ record { at = at; number = number; body = Body.Whole } }
+    {
+        Latest {
+            at,
+            number,
+            body: Body::Whole,
+        }
+    }
 }
 
 /// The sequence numbers of one direction since its link came up.
@@ -50,7 +62,7 @@ impl Model for Lane {
 
 impl Lane {
     /// A lane of an empty span, with memory for `room` unacknowledged TLPs, 1 to 4,095. No other call takes
-    /// memory.
+    /// memory. An `AllocError` says that this memory is wanting.
     pub fn open(alloc: Global, room: u16) -> Result<Lane, AllocError>
         requires { (0 < room) × (room < 4096) }
         ensures stands { IfOk result (λ lane. StandsFor lane []) }
@@ -171,11 +183,7 @@ impl Lane {
         self.retry.push(at, tlp);
         self.next += 1;
         self.latest_taken = Some(at);
-        self.latest_tlp = Some(Latest {
-            at,
-            number,
-            body: Body::Whole,
-        });
+        self.latest_tlp = Some(Latest::whole(at, number));
         self.spoiled_since = false;
     }
 
@@ -217,11 +225,7 @@ impl Lane {
                 add_if(found, out_of_turn, Rule::S3, at, latest, Some(original));
             }
         }
-        self.latest_tlp = Some(Latest {
-            at,
-            number,
-            body: Body::Whole,
-        });
+        self.latest_tlp = Some(Latest::whole(at, number));
     }
 
     /// The place among the unacknowledged TLPs of a repeat's original, if it is one of them.
@@ -273,11 +277,7 @@ impl Lane {
             self.latest_taken,
             None,
         );
-        self.latest_tlp = Some(Latest {
-            at,
-            number,
-            body: Body::Whole,
-        });
+        self.latest_tlp = Some(Latest::whole(at, number));
     }
 
     /// A TLP that its receiver drops: L1.
