@@ -4,8 +4,12 @@
 #[cfg(test)]
 mod capture;
 #[cfg(test)]
+mod cuts;
+#[cfg(test)]
 mod desk;
 #[cfg(test)]
 mod faults;
 #[cfg(test)]
 mod link;
+#[cfg(test)]
+mod profile;

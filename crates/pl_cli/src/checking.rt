@@ -6,8 +6,8 @@ ghost use Rattle.pl_profile.specs.Refusal.{number_of};
 ghost use Rattle.pl_profile.specs.declared.error.ProfileError as declared;
 ghost use Rattle.pl_profile.specs.declared.profile.Profile as named;
 ghost use Rattle.pl_report.specs.Lines.{profile_error_text, read_fault_text};
-ghost use Rattle.pl_cli.specs.Output.{cut, output, status_of};
-ghost use Rattle.pl_cli.specs.Progress.{ReadOf};
+ghost use Rattle.pl_cli.specs.Output.{output, status_of};
+ghost use Rattle.pl_cli.specs.Words.{Gives, GivesCut, GivesPartOfCut, NoFault};
 ghost use Rattle.pl_cli.specs.Source.{RefusesProfile, profile_under};
 
 use crate::closing::write_last;
@@ -36,21 +36,21 @@ pub fn check<H: Shelf, O: Sink>(
 ) -> u8
     // Where nothing failed, the lines are the output for the whole file, and so is the status.
     ensures exact { H.told shelf.old ≡ true → (p : named.Profile) (b : List ℕ) →
-        profile_under (H.file shelf.old) profile.now ≡ Some (Ok p) → H.file shelf.old capture.now ≡ Some b → result ≢ 7 → result ≢ 8 → result ≢ 9 →
-        (O.written out.new ≡ plus (O.written out.old) (output p b)) × (result ≡ status_of p b) }
+        profile_under (H.file shelf.old) profile.now ≡ Some (Ok p) → H.file shelf.old capture.now ≡ Some b → NoFault result →
+        Gives (output p b) (status_of p b) (O.written out.old) (O.written out.new) result }
 
     // A profile that is refused has its line, and nothing else is read.
     ensures refused { H.told shelf.old ≡ true → (e : declared.ProfileError) →
-        profile_under (H.file shelf.old) profile.now ≡ Some (Err e) → result ≢ 7 → result ≢ 8 → result ≢ 9 →
-        (O.written out.new ≡ plus (O.written out.old) (profile_error_text (number_of e))) × (result ≡ 3) }
+        profile_under (H.file shelf.old) profile.now ≡ Some (Err e) → NoFault result →
+        Gives (profile_error_text (number_of e)) 3 (O.written out.old) (O.written out.new) result }
 
     // Where reading failed, `read fault` stands alone or behind the lines of what was read of the capture.
     ensures cut_short { H.told shelf.old ≡ true → (p : named.Profile) (b : List ℕ) →
         profile_under (H.file shelf.old) profile.now ≡ Some (Ok p) → H.file shelf.old capture.now ≡ Some b → result ≡ 7 →
         (O.written out.new ≡ plus (O.written out.old) read_fault_text)
-        ⊎ ((read : List ℕ) × ReadOf b (H.is_open shelf.new) (H.rest shelf.new) read × (O.written out.new ≡ plus (O.written out.old) (cut p read))) }
+        ⊎ GivesCut p b (H.is_open shelf.new) (H.rest shelf.new) (O.written out.old) (O.written out.new) }
     ensures no_profile { H.told shelf.old ≡ true → profile_under (H.file shelf.old) profile.now ≡ None → result ≢ 8 →
-        (O.written out.new ≡ plus (O.written out.old) read_fault_text) × (result ≡ 7) }
+        Gives read_fault_text 7 (O.written out.old) (O.written out.new) result }
 
     // Where writing failed, a part of one of these was written.
     ensures part { H.told shelf.old ≡ true → (p : named.Profile) (b : List ℕ) →
@@ -58,7 +58,7 @@ pub fn check<H: Shelf, O: Sink>(
         Partly (O.written out.old) (O.written out.new) (output p b)
         ⊎ (Rose (H.faults shelf.old) (H.faults shelf.new)
         × (Partly (O.written out.old) (O.written out.new) read_fault_text
-        ⊎ ((read : List ℕ) × ReadOf b (H.is_open shelf.new) (H.rest shelf.new) read × Partly (O.written out.old) (O.written out.new) (cut p read)))) }
+        ⊎ GivesPartOfCut p b (H.is_open shelf.new) (H.rest shelf.new) (O.written out.old) (O.written out.new))) }
 
     // Want of memory writes nothing. Each other answer that isn't the output has its cause.
     ensures no_memory { result ≡ 9 → O.written out.new ≡ O.written out.old }
@@ -88,14 +88,14 @@ fn check_under<H: Shelf, O: Sink>(
     shelf: &mut H,
     out: &mut O,
 ) -> u8
-    ensures exact { H.told shelf.old ≡ true → (b : List ℕ) → H.file shelf.old capture.now ≡ Some b → result ≢ 7 → result ≢ 8 → result ≢ 9 →
-        (O.written out.new ≡ plus (O.written out.old) (output profile b)) × (result ≡ status_of profile b) }
+    ensures exact { H.told shelf.old ≡ true → (b : List ℕ) → H.file shelf.old capture.now ≡ Some b → NoFault result →
+        Gives (output profile b) (status_of profile b) (O.written out.old) (O.written out.new) result }
     ensures cut_short { H.told shelf.old ≡ true → (b : List ℕ) → H.file shelf.old capture.now ≡ Some b → result ≡ 7 →
-        (read : List ℕ) × ReadOf b (H.is_open shelf.new) (H.rest shelf.new) read × (O.written out.new ≡ plus (O.written out.old) (cut profile read)) }
+        GivesCut profile b (H.is_open shelf.new) (H.rest shelf.new) (O.written out.old) (O.written out.new) }
     ensures part { H.told shelf.old ≡ true → (b : List ℕ) → H.file shelf.old capture.now ≡ Some b → result ≡ 8 →
         Partly (O.written out.old) (O.written out.new) (output profile b)
         ⊎ (Rose (H.faults shelf.old) (H.faults shelf.new)
-        × ((read : List ℕ) × ReadOf b (H.is_open shelf.new) (H.rest shelf.new) read × Partly (O.written out.old) (O.written out.new) (cut profile read))) }
+        × GivesPartOfCut profile b (H.is_open shelf.new) (H.rest shelf.new) (O.written out.old) (O.written out.new)) }
     ensures no_memory { result ≡ 9 → O.written out.new ≡ O.written out.old }
     ensures read_fault { result ≡ 7 → Rose (H.faults shelf.old) (H.faults shelf.new) }
     ensures write_fault { result ≡ 8 → Rose (O.faults out.old) (O.faults out.new) }

@@ -1,15 +1,14 @@
 //! The top call: from the words of the command line to the exit status.
-ghost use Rattle.std.specs.Prelude.{◌≡◌, ◌≢◌, ◌⊎◌, List, ℕ, IsTrue, not, true, None, Some, Ok, Err, IsSome, length, map};
+ghost use Rattle.std.specs.Prelude.{◌≡◌, ◌≢◌, ◌⊎◌, List, ℕ, IsTrue, not, true, None, Some, Err, IsSome, length, map};
 ghost use Rattle.pl_io.specs.Faults.{Rose};
 ghost use Rattle.pl_io.specs.Told.{plus, HasRoom, Partly};
 ghost use Rattle.pl_profile.specs.Refusal.{number_of};
 ghost use Rattle.pl_profile.specs.declared.error.ProfileError as declared;
 ghost use Rattle.pl_profile.specs.declared.profile.Profile as named;
 ghost use Rattle.pl_report.specs.Lines.{profile_error_text, read_fault_text, usage_text};
-ghost use Rattle.pl_cli.specs.Output.{cut, output, status_of};
-ghost use Rattle.pl_cli.specs.Progress.{ReadOf};
+ghost use Rattle.pl_cli.specs.Output.{output, status_of};
 ghost use Rattle.pl_cli.specs.Source.{profile_under};
-ghost use Rattle.pl_cli.specs.Words.{IsCheck, IsNoCommand, IsUnrisen, RunsCleanly};
+ghost use Rattle.pl_cli.specs.Words.{Checks, Gives, GivesCut, GivesPartOfCut, IsCheck, IsNoCommand, IsUnrisen, NoFault, RunsCleanly};
 
 use crate::checking::check;
 use crate::closing::write_last;
@@ -24,38 +23,32 @@ use std::alloc::Global;
 /// its bytes are cut, what is written is exactly the lines that the rules give over the whole list of items, and
 /// then the closing line or that of the refusal.
 pub fn run<H: Shelf, O: Sink>(alloc: Global, words: &[&str], shelf: &mut H, out: &mut O) -> u8
-    // 1. Where nothing failed, the lines are the output for the whole file, and so is the status.
-    ensures exact { (profile capture : List ℕ) → IsCheck (map (λ w. w.now) words.now) profile capture → H.told shelf.old ≡ true →
-        (p : named.Profile) (b : List ℕ) → profile_under (H.file shelf.old) profile ≡ Some (Ok p) → H.file shelf.old capture ≡ Some b →
-        result ≢ 7 → result ≢ 8 → result ≢ 9 →
-        (O.written out.new ≡ plus (O.written out.old) (output p b)) × (result ≡ status_of p b) }
+    // 1. Where nothing failed, the lines are the output for the whole file, and so is the status. A profile that
+    // is refused has its line, and words that are no command the usage line.
+    ensures exact { (p : named.Profile) (b : List ℕ) → Checks (map (λ w. w.now) words.now) (H.told shelf.old) (H.file shelf.old) p b →
+        NoFault result → Gives (output p b) (status_of p b) (O.written out.old) (O.written out.new) result }
     ensures refused { (profile capture : List ℕ) → IsCheck (map (λ w. w.now) words.now) profile capture → H.told shelf.old ≡ true →
-        (e : declared.ProfileError) → profile_under (H.file shelf.old) profile ≡ Some (Err e) → result ≢ 7 → result ≢ 8 → result ≢ 9 →
-        (O.written out.new ≡ plus (O.written out.old) (profile_error_text (number_of e))) × (result ≡ 3) }
-    ensures usage { IsNoCommand (map (λ w. w.now) words.now) → result ≢ 8 →
-        (O.written out.new ≡ plus (O.written out.old) usage_text) × (result ≡ 2) }
+        (e : declared.ProfileError) → profile_under (H.file shelf.old) profile ≡ Some (Err e) →
+        NoFault result → Gives (profile_error_text (number_of e)) 3 (O.written out.old) (O.written out.new) result }
+    ensures usage { IsNoCommand (map (λ w. w.now) words.now) → result ≢ 8 → Gives usage_text 2 (O.written out.old) (O.written out.new) result }
 
     // 2. Status 0: the capture was read to its end, it ended with its end record, and no rule breaks at any item.
-    ensures clean { (profile capture : List ℕ) → IsCheck (map (λ w. w.now) words.now) profile capture → H.told shelf.old ≡ true →
-        (p : named.Profile) (b : List ℕ) → profile_under (H.file shelf.old) profile ≡ Some (Ok p) → H.file shelf.old capture ≡ Some b →
-        result ≡ 0 → RunsCleanly p b }
+    ensures clean { (p : named.Profile) (b : List ℕ) → Checks (map (λ w. w.now) words.now) (H.told shelf.old) (H.file shelf.old) p b → result ≡ 0 → RunsCleanly p b }
 
-    // 3. A fault of the shelf or of the sink is answered only where it was counted.
+    // 3. A fault of the shelf or of the sink is answered only where it was counted. What stands then is the text
+    // of what was read of the capture, or `read fault` alone where the profile couldn't be read; or a part of it.
     ensures read_fault { result ≡ 7 → Rose (H.faults shelf.old) (H.faults shelf.new) }
-    ensures cut_short { (profile capture : List ℕ) → IsCheck (map (λ w. w.now) words.now) profile capture → H.told shelf.old ≡ true →
-        (p : named.Profile) (b : List ℕ) → profile_under (H.file shelf.old) profile ≡ Some (Ok p) → H.file shelf.old capture ≡ Some b → result ≡ 7 →
+    ensures cut_short { (p : named.Profile) (b : List ℕ) → Checks (map (λ w. w.now) words.now) (H.told shelf.old) (H.file shelf.old) p b → result ≡ 7 →
         (O.written out.new ≡ plus (O.written out.old) read_fault_text)
-        ⊎ ((read : List ℕ) × ReadOf b (H.is_open shelf.new) (H.rest shelf.new) read × (O.written out.new ≡ plus (O.written out.old) (cut p read))) }
+        ⊎ GivesCut p b (H.is_open shelf.new) (H.rest shelf.new) (O.written out.old) (O.written out.new) }
     ensures no_profile { (profile capture : List ℕ) → IsCheck (map (λ w. w.now) words.now) profile capture → H.told shelf.old ≡ true →
-        profile_under (H.file shelf.old) profile ≡ None → result ≢ 8 →
-        (O.written out.new ≡ plus (O.written out.old) read_fault_text) × (result ≡ 7) }
+        profile_under (H.file shelf.old) profile ≡ None → result ≢ 8 → Gives read_fault_text 7 (O.written out.old) (O.written out.new) result }
     ensures write_fault { result ≡ 8 → Rose (O.faults out.old) (O.faults out.new) }
-    ensures part { (profile capture : List ℕ) → IsCheck (map (λ w. w.now) words.now) profile capture → H.told shelf.old ≡ true →
-        (p : named.Profile) (b : List ℕ) → profile_under (H.file shelf.old) profile ≡ Some (Ok p) → H.file shelf.old capture ≡ Some b → result ≡ 8 →
+    ensures part { (p : named.Profile) (b : List ℕ) → Checks (map (λ w. w.now) words.now) (H.told shelf.old) (H.file shelf.old) p b → result ≡ 8 →
         Partly (O.written out.old) (O.written out.new) (output p b)
         ⊎ (Rose (H.faults shelf.old) (H.faults shelf.new)
         × (Partly (O.written out.old) (O.written out.new) read_fault_text
-        ⊎ ((read : List ℕ) × ReadOf b (H.is_open shelf.new) (H.rest shelf.new) read × Partly (O.written out.old) (O.written out.new) (cut p read)))) }
+        ⊎ GivesPartOfCut p b (H.is_open shelf.new) (H.rest shelf.new) (O.written out.old) (O.written out.new))) }
     ensures shelf_kept { result ≢ 7 → result ≢ 8 → H.faults shelf.new ≡ H.faults shelf.old }
     ensures sink_kept { result ≢ 8 → O.faults out.new ≡ O.faults out.old }
 
@@ -63,16 +56,14 @@ pub fn run<H: Shelf, O: Sink>(alloc: Global, words: &[&str], shelf: &mut H, out:
     ensures no_memory { result ≡ 9 → O.written out.new ≡ O.written out.old }
 
     // 5. Where no count rose and memory was there, the whole output was written.
-    ensures complete { (profile capture : List ℕ) → IsCheck (map (λ w. w.now) words.now) profile capture → H.told shelf.old ≡ true →
-        (p : named.Profile) (b : List ℕ) → profile_under (H.file shelf.old) profile ≡ Some (Ok p) → H.file shelf.old capture ≡ Some b →
+    ensures complete { (p : named.Profile) (b : List ℕ) → Checks (map (λ w. w.now) words.now) (H.told shelf.old) (H.file shelf.old) p b →
         IsUnrisen (H.faults shelf.old) (H.faults shelf.new) → IsUnrisen (O.faults out.old) (O.faults out.new) →
-        (result ≡ 9) ⊎ ((O.written out.new ≡ plus (O.written out.old) (output p b)) × (result ≡ status_of p b)) }
+        (result ≡ 9) ⊎ Gives (output p b) (status_of p b) (O.written out.old) (O.written out.new) result }
 
     // 6. It makes no fault by itself.
-    ensures shelf_sure { (profile capture : List ℕ) → IsCheck (map (λ w. w.now) words.now) profile capture → H.sure shelf.old ≡ true →
+    ensures shelf_sure { H.sure shelf.old ≡ true → (profile capture : List ℕ) → IsCheck (map (λ w. w.now) words.now) profile capture →
         IsSome (profile_under (H.file shelf.old) profile) → IsSome (H.file shelf.old capture) → H.faults shelf.new ≡ H.faults shelf.old }
-    ensures sink_room { (profile capture : List ℕ) → IsCheck (map (λ w. w.now) words.now) profile capture → H.sure shelf.old ≡ true →
-        (p : named.Profile) (b : List ℕ) → profile_under (H.file shelf.old) profile ≡ Some (Ok p) → H.file shelf.old capture ≡ Some b →
+    ensures sink_room { H.sure shelf.old ≡ true → (p : named.Profile) (b : List ℕ) → Checks (map (λ w. w.now) words.now) (H.told shelf.old) (H.file shelf.old) p b →
         HasRoom (O.room out.old) (length (output p b)) → O.faults out.new ≡ O.faults out.old }
 {
     if is_check(words) {

@@ -8,13 +8,13 @@ use Rattle.pl_cli.proofs.Sources.{lacking, lacking_absent, lacking_cut, lacking_
 use Rattle.pl_cli.proofs.checking.check.Goals as goal
 
 pub returns-in-Ok-clause-exact : goal.returns-in-Ok-clause-exact
-returns-in-Ok-clause-exact g c = λ told p b source file n7 n8 n9.
+returns-in-Ok-clause-exact g c = λ told p b source file fine.
     let same = same_profile _ c.in-Ok.profile p (c.in-Ok.ensures.named told) source in
-    let e = c.check_under.ensures.exact (c.in-Ok.ensures.still_told ∙ told) b (c.in-Ok.ensures.files c.args.capture.now ∙ file) n7 n8 n9 in
+    let e = c.check_under.ensures.exact (c.in-Ok.ensures.still_told ∙ told) b (c.in-Ok.ensures.files c.args.capture.now ∙ file) fine in
     (e.0 ∙ ap (λ q. plus (g.O.Sink.written c.args.out.now) (output q b)) same, e.1 ∙ ap (λ q. status_of q b) same)
 
 pub returns-in-Ok-clause-refused : goal.returns-in-Ok-clause-refused
-returns-in-Ok-clause-refused g c = λ told e source n7 n8 n9. absurd (named_not_refused _ c.in-Ok.profile e (c.in-Ok.ensures.named told) source)
+returns-in-Ok-clause-refused g c = λ told e source fine. absurd (named_not_refused _ c.in-Ok.profile e (c.in-Ok.ensures.named told) source)
 
 pub returns-in-Ok-clause-cut_short : goal.returns-in-Ok-clause-cut_short
 returns-in-Ok-clause-cut_short g c = λ told p b source file is7.
@@ -58,14 +58,14 @@ returns-in-Ok-clause-sink_room g c = λ sure p b source file room.
     (subst (λ q. HasRoom (g.O.Sink.room c.args.out.now) (length (output q b))) (sym same) room)
 
 pub returns-in-Err-clause-exact : goal.returns-in-Err-clause-exact
-returns-in-Err-clause-exact g c = λ told p b source file n7 n8 n9.
+returns-in-Err-clause-exact g c = λ told p b source file fine.
     lacking_exact p _ (lacking (profile_under (g.H.Shelf.file c.args.shelf.now) c.args.profile.now) c.in-Err.none _ _ _ _ _ c.refuse_profile.ensures.refused c.in-Err.ensures.cause)
-    (c.in-Err.ensures.named told) source n7 n8 n9
+    (c.in-Err.ensures.named told) source fine.0 fine.1 fine.2
 
 pub returns-in-Err-clause-refused : goal.returns-in-Err-clause-refused
-returns-in-Err-clause-refused g c = λ told e source n7 n8 n9.
+returns-in-Err-clause-refused g c = λ told e source fine.
     lacking_refused e (lacking (profile_under (g.H.Shelf.file c.args.shelf.now) c.args.profile.now) c.in-Err.none _ _ _ _ _ c.refuse_profile.ensures.refused c.in-Err.ensures.cause)
-    (c.in-Err.ensures.named told) source n7 n8 n9
+    (c.in-Err.ensures.named told) source fine.0 fine.1 fine.2
 
 pub returns-in-Err-clause-cut_short : goal.returns-in-Err-clause-cut_short
 returns-in-Err-clause-cut_short g c = λ told p b source file is7.

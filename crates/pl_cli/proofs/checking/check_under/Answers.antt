@@ -5,8 +5,8 @@ use Rattle.pl_cli.proofs.Profiles.{cut_under, not_nine, part_under}
 use Rattle.pl_cli.proofs.checking.check_under.Goals as goal
 
 pub returns-in-Ok-clause-exact : goal.returns-in-Ok-clause-exact
-returns-in-Ok-clause-exact g c = λ told b file n7 n8 n9.
-    let e = c.check_with.ensures.exact told b file n7 n8 in
+returns-in-Ok-clause-exact g c = λ told b file fine.
+    let e = c.check_with.ensures.exact told b file fine.0 fine.1 in
     (e.0 ∙ ap (λ p. plus (g.O.Sink.written c.args.out.now) (output p b)) c.in-Ok.ensures.profile, e.1 ∙ ap (λ p. status_of p b) c.in-Ok.ensures.profile)
 
 pub returns-in-Ok-clause-cut_short : goal.returns-in-Ok-clause-cut_short
