@@ -1,5 +1,5 @@
 -- The clauses of `check`, by what became of its profile.
-use Rattle.std.proofs.Common.{◌≡◌, ◌≢◌, ◌⊎◌, inl, inr, List, ℕ, refl, ap, ◌∙◌, sym, subst, arith, Option, Some, None, IsSome, Result, Ok, Err}
+use Rattle.std.proofs.Common.{◌≡◌, ◌≢◌, ◌⊎◌, Bool, inl, inr, List, ℕ, refl, ap, ◌∙◌, sym, subst, arith, Option, Some, None, IsSome, Result, Ok, Err}
 use Rattle.pl_io.specs.Faults.{Rose}
 use Rattle.pl_io.specs.Told.{plus, Partly}
 use Rattle.pl_profile.specs.Refusal.{number_of}
@@ -9,7 +9,7 @@ use Rattle.pl_profile.specs.declared.profile.Profile.{Profile}
 use Rattle.pl_report.specs.Lines.{profile_error_text, read_fault_text}
 use Rattle.pl_cli.specs.declared.profile.NoProfile.{NoProfile}
 use Rattle.pl_cli.specs.declared.profile.NoProfile.TheVariants.{Unreadable, Refused}
-use Rattle.pl_cli.specs.Source.{IsNamed, IsReadable, ProfileCause, RefusesProfile, TextAndStatus}
+use Rattle.pl_cli.specs.Source.{IfUnreadable, IsNamed, IsReadable, ProfileCause, ProfileUnread, RefusesProfile, TextAndStatus}
 
 -- what became of a profile that can't be had: the status and what is written
 pub data Lacking (source : Option (Result Profile ProfileError)) (old new : Option (List ℕ)) (answer before now : ℕ) (named readable : Type 0) : Type 1 where
@@ -45,12 +45,6 @@ lacking_refused {old = old} e (refused e' is h kept) n src n7 n8 n9 =
     let same : e' ≡ e = cc in
     ((h.0 n8).0 ∙ ap (λ (x : ProfileError). plus old (profile_error_text (number_of x))) same, (h.0 n8).1)
 
-pub lacking_cut : {source : Option (Result Profile ProfileError)} {old new : Option (List ℕ)} {answer before now : ℕ} {named readable : Type 0} (p : Profile) →
-    Lacking source old new answer before now named readable → named → source ≡ Some (Ok p) → answer ≡ 7 → new ≡ plus old read_fault_text
-lacking_cut p (unreadable h rose never) n src is7 = (h.0 (omega arith)).0
-lacking_cut p (memory some same is9 kept) n src is7 = absurd (omega arith)
-lacking_cut p (refused e is h kept) n src is7 = let i = is n in absurd cc
-
 pub lacking_absent : {source : Option (Result Profile ProfileError)} {old new : Option (List ℕ)} {answer before now : ℕ} {named readable : Type 0} →
     Lacking source old new answer before now named readable → named → source ≡ None → answer ≢ 8 → (new ≡ plus old read_fault_text) × (answer ≡ 7)
 lacking_absent (unreadable h rose never) n src n8 = h.0 n8
@@ -59,12 +53,6 @@ lacking_absent (memory some same is9 kept) n src n8 = absurd (never (subst IsSom
     never : (let none : Option (Result Profile ProfileError) = None in IsSome none) → ⊥
     never h = cc
 lacking_absent (refused e is h kept) n src n8 = let i = is n in absurd cc
-
-pub lacking_part : {source : Option (Result Profile ProfileError)} {old new : Option (List ℕ)} {answer before now : ℕ} {named readable : Type 0} (p : Profile) (A B : Type 0) →
-    Lacking source old new answer before now named readable → named → source ≡ Some (Ok p) → answer ≡ 8 → A ⊎ (Rose before now × (Partly old new read_fault_text ⊎ B))
-lacking_part p A B (unreadable h rose never) n src is8 = inr (rose, inl (h.1 is8))
-lacking_part p A B (memory some same is9 kept) n src is8 = absurd (omega arith)
-lacking_part p A B (refused e is h kept) n src is8 = let i = is n in absurd cc
 
 pub lacking_memory : {source : Option (Result Profile ProfileError)} {old new : Option (List ℕ)} {answer before now : ℕ} {named readable : Type 0} →
     Lacking source old new answer before now named readable → answer ≡ 9 → new ≡ old
@@ -101,6 +89,39 @@ lacking_room p C (refused e is h k) n r src kept = let i = is n in absurd cc
 pub later_part : (A B C : Type 0) (before mid now : ℕ) → mid ≡ before → A ⊎ (Rose mid now × B) → A ⊎ (Rose before now × (C ⊎ B))
 later_part A B C before mid now same (inl a) = inl a
 later_part A B C before mid now same (inr b) = inr (subst (λ (n : ℕ). Rose n now) same b.0, inr b.1)
+
+-- a status of 7 or 8 is that of a profile that couldn't be read
+pub unread_cut : (source : Option (Result Profile ProfileError)) (old new : Option (List ℕ)) (answer : ℕ) (p : Profile) (none : NoProfile) (U : Type 0) →
+    RefusesProfile none old new answer → (let r : Result Profile NoProfile = Err none in IsNamed source r) → (let r : Result Profile NoProfile = Err none in IfUnreadable r U) →
+    source ≡ Some (Ok p) → answer ≡ 7 → U × (new ≡ plus old read_fault_text)
+unread_cut source old new answer p Unreadable U h n u src is7 = (u, (h.0 (omega arith)).0)
+unread_cut source old new answer p (Refused Memory) U h n u src is7 = absurd (omega (arith, h.1))
+unread_cut source old new answer p (Refused NotToml) U h n u src is7 = absurd cc
+unread_cut source old new answer p (Refused UnknownKey) U h n u src is7 = absurd cc
+unread_cut source old new answer p (Refused WrongType) U h n u src is7 = absurd cc
+unread_cut source old new answer p (Refused OutOfRange) U h n u src is7 = absurd cc
+unread_cut source old new answer p (Refused TooLong) U h n u src is7 = absurd cc
+
+pub unread_part : (source : Option (Result Profile ProfileError)) (old new : Option (List ℕ)) (answer before now : ℕ) (p : Profile) (none : NoProfile) (A B U : Type 0) →
+    RefusesProfile none old new answer → (let r : Result Profile NoProfile = Err none in IsNamed source r) → (let r : Result Profile NoProfile = Err none in IfUnreadable r U) →
+    (let r : Result Profile NoProfile = Err none in ProfileCause r before now) → source ≡ Some (Ok p) → answer ≡ 8 →
+    A ⊎ (Rose before now × ((U × Partly old new read_fault_text) ⊎ B))
+unread_part source old new answer before now p Unreadable A B U h n u rose src is8 = inr (rose, inl (u, h.1 is8))
+unread_part source old new answer before now p (Refused Memory) A B U h n u rose src is8 = absurd (omega (arith, h.1))
+unread_part source old new answer before now p (Refused NotToml) A B U h n u rose src is8 = absurd cc
+unread_part source old new answer before now p (Refused UnknownKey) A B U h n u rose src is8 = absurd cc
+unread_part source old new answer before now p (Refused WrongType) A B U h n u rose src is8 = absurd cc
+unread_part source old new answer before now p (Refused OutOfRange) A B U h n u rose src is8 = absurd cc
+unread_part source old new answer before now p (Refused TooLong) A B U h n u rose src is8 = absurd cc
+
+-- the same profile by another name of it
+pub unread_named : (files : List ℕ → Option (List ℕ)) (a b : List ℕ) (opened : Bool) (rest : Option (List ℕ)) (X Y : Type 0) → a ≡ b →
+    (ProfileUnread files a opened rest × X) ⊎ Y → (ProfileUnread files b opened rest × X) ⊎ Y
+unread_named files a b opened rest X Y same h = subst (λ (name : List ℕ). (ProfileUnread files name opened rest × X) ⊎ Y) same h
+
+pub unread_part_named : (files : List ℕ → Option (List ℕ)) (a b : List ℕ) (opened : Bool) (rest : Option (List ℕ)) (A R X Y : Type 0) → a ≡ b →
+    A ⊎ (R × ((ProfileUnread files a opened rest × X) ⊎ Y)) → A ⊎ (R × ((ProfileUnread files b opened rest × X) ⊎ Y))
+unread_part_named files a b opened rest A R X Y same h = subst (λ (name : List ℕ). A ⊎ (R × ((ProfileUnread files name opened rest × X) ⊎ Y))) same h
 
 pub there : (a b : Option (List ℕ)) → a ≡ b → IsSome b → IsSome a
 there a b h s = subst IsSome (sym h) s

@@ -1,5 +1,5 @@
 -- Where the profile of a command comes from.
-use Rattle.std.specs.Prelude.{◌≡◌, ◌≢◌, ℕ, ◌+◌, ◌⊎◌, List, length, codes, Option, Some, IsSome, Result, Ok, Err, bytes_eq, if◌then◌else◌}
+use Rattle.std.specs.Prelude.{◌≡◌, ◌≢◌, ℕ, ◌+◌, ◌⊎◌, List, length, codes, Option, Some, IsSome, Result, Ok, Err, bytes_eq, if◌then◌else◌, Bool, false}
 use Rattle.std.specs.Option.{option_map}
 use Rattle.pl_io.specs.Faults.{Rose}
 use Rattle.pl_io.specs.Told.{plus, ahead, AtEnd, Partly}
@@ -8,6 +8,7 @@ use Rattle.pl_profile.specs.declared.error.ProfileError.TheVariants.{NotToml, Un
 use Rattle.pl_profile.specs.declared.profile.Profile.{Profile}
 use Rattle.pl_profile.specs.ProfileOf.{longest_text, profile_of, usual_profile}
 use Rattle.pl_report.specs.Lines.{profile_error_text, read_fault_text}
+use Rattle.pl_cli.specs.Progress.{ReadOf}
 use Rattle.pl_cli.specs.declared.profile.NoProfile.{NoProfile}
 use Rattle.pl_cli.specs.declared.profile.NoProfile.TheVariants.{Unreadable, Refused}
 
@@ -58,3 +59,13 @@ RefusesProfile (Refused UnknownKey) old new answer = TextAndStatus (profile_erro
 RefusesProfile (Refused WrongType) old new answer = TextAndStatus (profile_error_text 3) 3 old new answer
 RefusesProfile (Refused OutOfRange) old new answer = TextAndStatus (profile_error_text 4) 3 old new answer
 RefusesProfile (Refused TooLong) old new answer = TextAndStatus (profile_error_text 5) 3 old new answer
+
+-- The file of the profile couldn't be opened or read: the shelf tells what is left of it. A dash names no file.
+pub record ProfileUnread (files : List ℕ → Option (List ℕ)) (name : List ℕ) (opened : Bool) (rest : Option (List ℕ)) : Type 0 where
+  pub is_file : bytes_eq name (codes "-") ≡ false
+  pub left : (text : List ℕ) → files name ≡ Some text → (read : List ℕ) × ReadOf text opened rest read
+
+abbrev pub IfUnreadable : {T : Type 0} → Result T NoProfile → Type 0 → Type 0
+IfUnreadable (Ok profile) P = Unit {0}
+IfUnreadable (Err (Refused error)) P = Unit {0}
+IfUnreadable (Err Unreadable) P = P

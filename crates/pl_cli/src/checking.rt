@@ -8,7 +8,7 @@ ghost use Rattle.pl_profile.specs.declared.profile.Profile as named;
 ghost use Rattle.pl_report.specs.Lines.{profile_error_text, read_fault_text};
 ghost use Rattle.pl_cli.specs.Output.{output, status_of};
 ghost use Rattle.pl_cli.specs.Words.{Gives, GivesCut, GivesPartOfCut, NoFault};
-ghost use Rattle.pl_cli.specs.Source.{RefusesProfile, profile_under};
+ghost use Rattle.pl_cli.specs.Source.{ProfileUnread, RefusesProfile, profile_under};
 
 use crate::closing::write_last;
 use crate::profile::{NoProfile, profile_named};
@@ -47,7 +47,7 @@ pub fn check<H: Shelf, O: Sink>(
     // Where reading failed, `read fault` stands alone or behind the lines of what was read of the capture.
     ensures cut_short { H.told shelf.old ≡ true → (p : named.Profile) (b : List ℕ) →
         profile_under (H.file shelf.old) profile.now ≡ Some (Ok p) → H.file shelf.old capture.now ≡ Some b → result ≡ 7 →
-        (O.written out.new ≡ plus (O.written out.old) read_fault_text)
+        (ProfileUnread (H.file shelf.old) profile.now (H.is_open shelf.new) (H.rest shelf.new) × (O.written out.new ≡ plus (O.written out.old) read_fault_text))
         ⊎ GivesCut p b (H.is_open shelf.new) (H.rest shelf.new) (O.written out.old) (O.written out.new) }
     ensures no_profile { H.told shelf.old ≡ true → profile_under (H.file shelf.old) profile.now ≡ None → result ≢ 8 →
         Gives read_fault_text 7 (O.written out.old) (O.written out.new) result }
@@ -57,7 +57,7 @@ pub fn check<H: Shelf, O: Sink>(
         profile_under (H.file shelf.old) profile.now ≡ Some (Ok p) → H.file shelf.old capture.now ≡ Some b → result ≡ 8 →
         Partly (O.written out.old) (O.written out.new) (output p b)
         ⊎ (Rose (H.faults shelf.old) (H.faults shelf.new)
-        × (Partly (O.written out.old) (O.written out.new) read_fault_text
+        × ((ProfileUnread (H.file shelf.old) profile.now (H.is_open shelf.new) (H.rest shelf.new) × Partly (O.written out.old) (O.written out.new) read_fault_text)
         ⊎ GivesPartOfCut p b (H.is_open shelf.new) (H.rest shelf.new) (O.written out.old) (O.written out.new))) }
 
     // Want of memory writes nothing. Each other answer that isn't the output has its cause.

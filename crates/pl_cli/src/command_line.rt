@@ -7,7 +7,7 @@ ghost use Rattle.pl_profile.specs.declared.error.ProfileError as declared;
 ghost use Rattle.pl_profile.specs.declared.profile.Profile as named;
 ghost use Rattle.pl_report.specs.Lines.{profile_error_text, read_fault_text, usage_text};
 ghost use Rattle.pl_cli.specs.Output.{output, status_of};
-ghost use Rattle.pl_cli.specs.Source.{profile_under};
+ghost use Rattle.pl_cli.specs.Source.{ProfileUnread, profile_under};
 ghost use Rattle.pl_cli.specs.Words.{Checks, Gives, GivesCut, GivesPartOfCut, IsCheck, IsNoCommand, IsUnrisen, NoFault, RunsCleanly};
 
 use crate::checking::check;
@@ -38,16 +38,16 @@ pub fn run<H: Shelf, O: Sink>(alloc: Global, words: &[&str], shelf: &mut H, out:
     // 3. A fault of the shelf or of the sink is answered only where it was counted. What stands then is the text
     // of what was read of the capture, or `read fault` alone where the profile couldn't be read; or a part of it.
     ensures read_fault { result ≡ 7 → Rose (H.faults shelf.old) (H.faults shelf.new) }
-    ensures cut_short { (p : named.Profile) (b : List ℕ) → Checks (map (λ w. w.now) words.now) (H.told shelf.old) (H.file shelf.old) p b → result ≡ 7 →
-        (O.written out.new ≡ plus (O.written out.old) read_fault_text)
+    ensures cut_short { (p : named.Profile) (b : List ℕ) (names : Checks (map (λ w. w.now) words.now) (H.told shelf.old) (H.file shelf.old) p b) → result ≡ 7 →
+        (ProfileUnread (H.file shelf.old) names.profile_name (H.is_open shelf.new) (H.rest shelf.new) × (O.written out.new ≡ plus (O.written out.old) read_fault_text))
         ⊎ GivesCut p b (H.is_open shelf.new) (H.rest shelf.new) (O.written out.old) (O.written out.new) }
     ensures no_profile { (profile capture : List ℕ) → IsCheck (map (λ w. w.now) words.now) profile capture → H.told shelf.old ≡ true →
         profile_under (H.file shelf.old) profile ≡ None → result ≢ 8 → Gives read_fault_text 7 (O.written out.old) (O.written out.new) result }
     ensures write_fault { result ≡ 8 → Rose (O.faults out.old) (O.faults out.new) }
-    ensures part { (p : named.Profile) (b : List ℕ) → Checks (map (λ w. w.now) words.now) (H.told shelf.old) (H.file shelf.old) p b → result ≡ 8 →
+    ensures part { (p : named.Profile) (b : List ℕ) (names : Checks (map (λ w. w.now) words.now) (H.told shelf.old) (H.file shelf.old) p b) → result ≡ 8 →
         Partly (O.written out.old) (O.written out.new) (output p b)
         ⊎ (Rose (H.faults shelf.old) (H.faults shelf.new)
-        × (Partly (O.written out.old) (O.written out.new) read_fault_text
+        × ((ProfileUnread (H.file shelf.old) names.profile_name (H.is_open shelf.new) (H.rest shelf.new) × Partly (O.written out.old) (O.written out.new) read_fault_text)
         ⊎ GivesPartOfCut p b (H.is_open shelf.new) (H.rest shelf.new) (O.written out.old) (O.written out.new))) }
     ensures shelf_kept { result ≢ 7 → result ≢ 8 → H.faults shelf.new ≡ H.faults shelf.old }
     ensures sink_kept { result ≢ 8 → O.faults out.new ≡ O.faults out.old }

@@ -4,7 +4,7 @@ use Rattle.pl_io.specs.Told.{plus, HasRoom}
 use Rattle.pl_cli.specs.Output.{output, status_of}
 use Rattle.pl_cli.specs.Source.{profile_under}
 use Rattle.pl_cli.proofs.Profiles.{cut_under, part_under, same_profile}
-use Rattle.pl_cli.proofs.Sources.{lacking, lacking_absent, lacking_cut, lacking_exact, lacking_fault, lacking_kept, lacking_memory, lacking_part, lacking_refused, lacking_room, lacking_sure, later_part, named_not_none, named_not_refused, some_named, there}
+use Rattle.pl_cli.proofs.Sources.{lacking, lacking_absent, lacking_exact, lacking_fault, lacking_kept, lacking_memory, lacking_refused, lacking_room, lacking_sure, later_part, named_not_none, named_not_refused, some_named, there, unread_cut, unread_part}
 use Rattle.pl_cli.proofs.checking.check.Goals as goal
 
 pub returns-in-Ok-clause-exact : goal.returns-in-Ok-clause-exact
@@ -69,8 +69,7 @@ returns-in-Err-clause-refused g c = λ told e source fine.
 
 pub returns-in-Err-clause-cut_short : goal.returns-in-Err-clause-cut_short
 returns-in-Err-clause-cut_short g c = λ told p b source file is7.
-    inl (lacking_cut p (lacking (profile_under (g.H.Shelf.file c.args.shelf.now) c.args.profile.now) c.in-Err.none _ _ _ _ _ c.refuse_profile.ensures.refused c.in-Err.ensures.cause)
-    (c.in-Err.ensures.named told) source is7)
+    inl (unread_cut (profile_under (g.H.Shelf.file c.args.shelf.now) c.args.profile.now) _ _ _ p c.in-Err.none _ c.refuse_profile.ensures.refused (c.in-Err.ensures.named told) (c.in-Err.ensures.unread told) source is7)
 
 pub returns-in-Err-clause-no_profile : goal.returns-in-Err-clause-no_profile
 returns-in-Err-clause-no_profile g c = λ told source n8.
@@ -79,8 +78,7 @@ returns-in-Err-clause-no_profile g c = λ told source n8.
 
 pub returns-in-Err-clause-part : goal.returns-in-Err-clause-part
 returns-in-Err-clause-part g c = λ told p b source file is8.
-    lacking_part p _ _ (lacking (profile_under (g.H.Shelf.file c.args.shelf.now) c.args.profile.now) c.in-Err.none _ _ _ _ _ c.refuse_profile.ensures.refused c.in-Err.ensures.cause)
-    (c.in-Err.ensures.named told) source is8
+    unread_part (profile_under (g.H.Shelf.file c.args.shelf.now) c.args.profile.now) _ _ _ _ _ p c.in-Err.none _ _ _ c.refuse_profile.ensures.refused (c.in-Err.ensures.named told) (c.in-Err.ensures.unread told) c.in-Err.ensures.cause source is8
 
 pub returns-in-Err-clause-no_memory : goal.returns-in-Err-clause-no_memory
 returns-in-Err-clause-no_memory g c =

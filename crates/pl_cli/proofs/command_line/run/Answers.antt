@@ -1,6 +1,7 @@
 use Rattle.std.proofs.Common.{◌∙◌, ap, sym, not}
 use Rattle.pl_cli.specs.Source.{profile_under}
 use Rattle.pl_cli.proofs.Commands.{above, clean_file, complete_by, not_risen, operands, some_at}
+use Rattle.pl_cli.proofs.Sources.{unread_named, unread_part_named}
 use Rattle.pl_cli.proofs.command_line.run.Goals as goal
 
 pub returns-then-is_check-clause-exact : goal.returns-then-is_check-clause-exact
@@ -23,18 +24,20 @@ returns-then-is_check-clause-clean g c = λ p b h is0.
     (ap (g.H.Shelf.file c.args.shelf.now) (operands c.args.words.now _ h.profile_name h.capture_name h.command).1 ∙ h.capture_is) (above 6 is0, above 7 is0, above 8 is0)).1 ∙ is0)
 
 pub returns-then-is_check-clause-cut_short : goal.returns-then-is_check-clause-cut_short
-returns-then-is_check-clause-cut_short g c = λ p b h is7. c.check.ensures.cut_short h.told p b
+returns-then-is_check-clause-cut_short g c = λ p b h is7.
+    unread_named _ _ _ _ _ _ _ (operands c.args.words.now _ h.profile_name h.capture_name h.command).0 (c.check.ensures.cut_short h.told p b
     (ap (profile_under (g.H.Shelf.file c.args.shelf.now)) (operands c.args.words.now _ h.profile_name h.capture_name h.command).0 ∙ h.profile_is)
-    (ap (g.H.Shelf.file c.args.shelf.now) (operands c.args.words.now _ h.profile_name h.capture_name h.command).1 ∙ h.capture_is) is7
+    (ap (g.H.Shelf.file c.args.shelf.now) (operands c.args.words.now _ h.profile_name h.capture_name h.command).1 ∙ h.capture_is) is7)
 
 pub returns-then-is_check-clause-no_profile : goal.returns-then-is_check-clause-no_profile
 returns-then-is_check-clause-no_profile g c = λ profile capture is told source n8. c.check.ensures.no_profile told
     (ap (profile_under (g.H.Shelf.file c.args.shelf.now)) (operands c.args.words.now _ profile capture is).0 ∙ source) n8
 
 pub returns-then-is_check-clause-part : goal.returns-then-is_check-clause-part
-returns-then-is_check-clause-part g c = λ p b h is8. c.check.ensures.part h.told p b
+returns-then-is_check-clause-part g c = λ p b h is8.
+    unread_part_named _ _ _ _ _ _ _ _ _ (operands c.args.words.now _ h.profile_name h.capture_name h.command).0 (c.check.ensures.part h.told p b
     (ap (profile_under (g.H.Shelf.file c.args.shelf.now)) (operands c.args.words.now _ h.profile_name h.capture_name h.command).0 ∙ h.profile_is)
-    (ap (g.H.Shelf.file c.args.shelf.now) (operands c.args.words.now _ h.profile_name h.capture_name h.command).1 ∙ h.capture_is) is8
+    (ap (g.H.Shelf.file c.args.shelf.now) (operands c.args.words.now _ h.profile_name h.capture_name h.command).1 ∙ h.capture_is) is8)
 
 pub returns-then-is_check-clause-complete : goal.returns-then-is_check-clause-complete
 returns-then-is_check-clause-complete g c = λ p b h shelf_is out_is.
