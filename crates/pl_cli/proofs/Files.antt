@@ -120,3 +120,10 @@ taken_nothing told opened f closed = record {
   where
     never : false ≡ true → ⊥
     never h = cc
+
+-- a file that is told to be open is there
+pub some_none : (rest file : Option (List ℕ)) → IsSome rest × (rest ≡ file) → file ≡ None → ⊥
+some_none rest file h none = never (subst IsSome (h.1 ∙ none) h.0)
+  where
+    never : (let o : Option (List ℕ) = None in IsSome o) → ⊥
+    never k = cc

@@ -46,13 +46,20 @@ lacking_refused {old = old} e (refused e' is h kept) n src n7 n8 n9 =
     ((h.0 n8).0 ∙ ap (λ (x : ProfileError). plus old (profile_error_text (number_of x))) same, (h.0 n8).1)
 
 pub lacking_absent : {source : Option (Result Profile ProfileError)} {old new : Option (List ℕ)} {answer before now : ℕ} {named readable : Type 0} →
-    Lacking source old new answer before now named readable → named → source ≡ None → answer ≢ 8 → (new ≡ plus old read_fault_text) × (answer ≡ 7)
-lacking_absent (unreadable h rose never) n src n8 = h.0 n8
-lacking_absent (memory some same is9 kept) n src n8 = absurd (never (subst IsSome src (some n)))
+    Lacking source old new answer before now named readable → named → source ≡ None → TextAndStatus read_fault_text 7 old new answer
+lacking_absent (unreadable h rose never) n src = h
+lacking_absent (memory some same is9 kept) n src = absurd (never (subst IsSome src (some n)))
   where
     never : (let none : Option (Result Profile ProfileError) = None in IsSome none) → ⊥
     never h = cc
-lacking_absent (refused e is h kept) n src n8 = let i = is n in absurd cc
+lacking_absent (refused e is h kept) n src = let i = is n in absurd cc
+
+-- where the profile is well formed and memory was there, only a fault is left
+pub lacking_line : {source : Option (Result Profile ProfileError)} {old new : Option (List ℕ)} {answer before now : ℕ} {named readable : Type 0} (p : Profile) →
+    Lacking source old new answer before now named readable → named → source ≡ Some (Ok p) → answer ≢ 9 → TextAndStatus read_fault_text 7 old new answer
+lacking_line p (unreadable h rose never) n src n9 = h
+lacking_line p (memory some same is9 kept) n src n9 = absurd (n9 is9)
+lacking_line p (refused e is h kept) n src n9 = let i = is n in absurd cc
 
 pub lacking_memory : {source : Option (Result Profile ProfileError)} {old new : Option (List ℕ)} {answer before now : ℕ} {named readable : Type 0} →
     Lacking source old new answer before now named readable → answer ≡ 9 → new ≡ old
@@ -90,18 +97,38 @@ pub later_part : (A B C : Type 0) (before mid now : ℕ) → mid ≡ before → 
 later_part A B C before mid now same (inl a) = inl a
 later_part A B C before mid now same (inr b) = inr (subst (λ (n : ℕ). Rose n now) same b.0, inr b.1)
 
--- a status of 7 or 8 is that of a profile that couldn't be read
-pub unread_cut : (source : Option (Result Profile ProfileError)) (old new : Option (List ℕ)) (answer : ℕ) (p : Profile) (none : NoProfile) (U : Type 0) →
-    RefusesProfile none old new answer → (let r : Result Profile NoProfile = Err none in IsNamed source r) → (let r : Result Profile NoProfile = Err none in IfUnreadable r U) →
-    source ≡ Some (Ok p) → answer ≡ 7 → U × (new ≡ plus old read_fault_text)
-unread_cut source old new answer p Unreadable U h n u src is7 = (u, (h.0 (omega arith)).0)
-unread_cut source old new answer p (Refused Memory) U h n u src is7 = absurd (omega (arith, h.1))
-unread_cut source old new answer p (Refused NotToml) U h n u src is7 = absurd cc
-unread_cut source old new answer p (Refused UnknownKey) U h n u src is7 = absurd cc
-unread_cut source old new answer p (Refused WrongType) U h n u src is7 = absurd cc
-unread_cut source old new answer p (Refused OutOfRange) U h n u src is7 = absurd cc
-unread_cut source old new answer p (Refused TooLong) U h n u src is7 = absurd cc
+-- a status of 7 is that of a profile that couldn't be read
+pub unread_cut : (source : Option (Result Profile ProfileError)) (old new : Option (List ℕ)) (answer : ℕ) (none : NoProfile) (U : Type 0) →
+    RefusesProfile none old new answer → (let r : Result Profile NoProfile = Err none in IfUnreadable r U) → answer ≡ 7 → U × (new ≡ plus old read_fault_text)
+unread_cut source old new answer Unreadable U h u is7 = (u, (h.0 (omega arith)).0)
+unread_cut source old new answer (Refused Memory) U h u is7 = absurd (omega (arith, h.1))
+unread_cut source old new answer (Refused NotToml) U h u is7 = let e = (h.0 (omega arith)).1 in absurd (omega arith)
+unread_cut source old new answer (Refused UnknownKey) U h u is7 = let e = (h.0 (omega arith)).1 in absurd (omega arith)
+unread_cut source old new answer (Refused WrongType) U h u is7 = let e = (h.0 (omega arith)).1 in absurd (omega arith)
+unread_cut source old new answer (Refused OutOfRange) U h u is7 = let e = (h.0 (omega arith)).1 in absurd (omega arith)
+unread_cut source old new answer (Refused TooLong) U h u is7 = let e = (h.0 (omega arith)).1 in absurd (omega arith)
 
+same_error : (source : Option (Result Profile ProfileError)) (a b : ProfileError) → source ≡ Some (Err a) → source ≡ Some (Err b) → a ≡ b
+same_error source a b h k = cc
+
+part_of_line : (source : Option (Result Profile ProfileError)) (a b : ProfileError) (old new : Option (List ℕ)) (B : Type 0) →
+    source ≡ Some (Err a) → source ≡ Some (Err b) → Partly old new (profile_error_text (number_of a)) → Partly old new (profile_error_text (number_of b)) ⊎ B
+part_of_line source a b old new B h k part = inl (subst (λ (x : ProfileError). Partly old new (profile_error_text (number_of x))) (same_error source a b h k) part)
+
+-- where the sink failed, a part of the refusal's line was written, or of that of a fault
+pub refused_part : (source : Option (Result Profile ProfileError)) (old new : Option (List ℕ)) (answer before now : ℕ) (e : ProfileError) (none : NoProfile) →
+    RefusesProfile none old new answer → (let r : Result Profile NoProfile = Err none in IsNamed source r) →
+    (let r : Result Profile NoProfile = Err none in ProfileCause r before now) → source ≡ Some (Err e) → answer ≡ 8 →
+    Partly old new (profile_error_text (number_of e)) ⊎ (Rose before now × Partly old new read_fault_text)
+refused_part source old new answer before now e Unreadable h n rose src is8 = inr (rose, h.1 is8)
+refused_part source old new answer before now e (Refused Memory) h n rose src is8 = absurd (omega (arith, h.1))
+refused_part source old new answer before now e (Refused NotToml) h n rose src is8 = part_of_line source NotToml e old new _ n src (h.1 is8)
+refused_part source old new answer before now e (Refused UnknownKey) h n rose src is8 = part_of_line source UnknownKey e old new _ n src (h.1 is8)
+refused_part source old new answer before now e (Refused WrongType) h n rose src is8 = part_of_line source WrongType e old new _ n src (h.1 is8)
+refused_part source old new answer before now e (Refused OutOfRange) h n rose src is8 = part_of_line source OutOfRange e old new _ n src (h.1 is8)
+refused_part source old new answer before now e (Refused TooLong) h n rose src is8 = part_of_line source TooLong e old new _ n src (h.1 is8)
+
+-- and so is one of 8
 pub unread_part : (source : Option (Result Profile ProfileError)) (old new : Option (List ℕ)) (answer before now : ℕ) (p : Profile) (none : NoProfile) (A B U : Type 0) →
     RefusesProfile none old new answer → (let r : Result Profile NoProfile = Err none in IsNamed source r) → (let r : Result Profile NoProfile = Err none in IfUnreadable r U) →
     (let r : Result Profile NoProfile = Err none in ProfileCause r before now) → source ≡ Some (Ok p) → answer ≡ 8 →
@@ -118,6 +145,10 @@ unread_part source old new answer before now p (Refused TooLong) A B U h n u ros
 pub unread_named : (files : List ℕ → Option (List ℕ)) (a b : List ℕ) (opened : Bool) (rest : Option (List ℕ)) (X Y : Type 0) → a ≡ b →
     (ProfileUnread files a opened rest × X) ⊎ Y → (ProfileUnread files b opened rest × X) ⊎ Y
 unread_named files a b opened rest X Y same h = subst (λ (name : List ℕ). (ProfileUnread files name opened rest × X) ⊎ Y) same h
+
+pub unread_named_alone : (files : List ℕ → Option (List ℕ)) (a b : List ℕ) (opened : Bool) (rest : Option (List ℕ)) (X : Type 0) → a ≡ b →
+    ProfileUnread files a opened rest × X → ProfileUnread files b opened rest × X
+unread_named_alone files a b opened rest X same h = subst (λ (name : List ℕ). ProfileUnread files name opened rest × X) same h
 
 pub unread_part_named : (files : List ℕ → Option (List ℕ)) (a b : List ℕ) (opened : Bool) (rest : Option (List ℕ)) (A R X Y : Type 0) → a ≡ b →
     A ⊎ (R × ((ProfileUnread files a opened rest × X) ⊎ Y)) → A ⊎ (R × ((ProfileUnread files b opened rest × X) ⊎ Y))

@@ -1,5 +1,6 @@
 -- The clauses of the top call, from what was read and what the last line led to.
-use Rattle.std.proofs.Common.{◌≡◌, ◌≢◌, ◌++◌, ◌+◌, ◌≤◌, ◌⊎◌, inl, inr, List, ℕ, Bool, true, false, [], refl, ap, ◌∙◌, sym, subst, length, take, append_assoc, append-nil, length-append, arith, Option, Some, None, zero-add}
+use Rattle.std.proofs.Common.{◌≡◌, ◌≢◌, ◌++◌, ◌+◌, ◌≤◌, ◌⊎◌, inl, inr, List, ℕ, Bool, true, false, [], refl, ap, ◌∙◌, sym, subst, length, take, append_assoc, append-nil, length-append, arith, Option, Some, None, Result, Ok, Err, zero-add}
+use Rattle.pl_io.specs.declared.failed.Failed.{Failed}
 use Rattle.pl_io.specs.Faults.{Rose}
 use Rattle.pl_io.specs.Told.{plus, ahead, HasRoom, Partly}
 use Rattle.pl_io.proofs.Told.{plus-plus}
@@ -14,6 +15,8 @@ use Rattle.pl_cli.specs.declared.judging.Ended as declared
 use Rattle.pl_cli.specs.declared.judging.Ended.TheVariants as ended
 use Rattle.pl_cli.specs.Output.{AtFault, cause_status, cut, items_judged, last_text, limit, lines, output, status_of}
 use Rattle.pl_cli.specs.Progress.{Closed, EndsAs, ReadOf, ShelfCause, SoFar, Taken, TakenCut, is_fault, last_cause, nothing_judged, verdicts_in}
+use Rattle.pl_cli.specs.Source.{TextAndStatus}
+use Rattle.pl_report.specs.Lines.{read_fault_text}
 use Rattle.pl_cli.proofs.Known.{end_known}
 use Rattle.pl_cli.proofs.Ends.{Finishes, cut_part, fault_text, finishes, rest_told}
 
@@ -125,6 +128,22 @@ top_part {p} {j} {w = w} {w1 = w1} {w2 = w2} ended.Fault answer before now t cl 
     )
 top_part ended.TooLong answer before now t cl s told_is b file_is is8 = inl (whole_part t cl b told_is file_is refl is8)
 top_part (ended.Refused x) answer before now t cl s told_is b file_is is8 = inl (whole_part t cl b told_is file_is refl is8)
+
+-- a capture that isn't there leaves only the line of a fault
+pub top_absent : {w w1 w2 : Option (List ℕ)} {r1 : Option ℕ} (j : Judging) (e : declared.Ended) (answer : ℕ) → e ≡ ended.Fault → w1 ≡ w →
+    Closed w1 w2 r1 (last_text j.items j.verdicts (last_cause e j.reader)) (cause_status j.verdicts (last_cause e j.reader)) answer →
+    TextAndStatus read_fault_text 7 w w2 answer
+top_absent j ended.Whole answer h same cl = absurd cc
+top_absent {w2 = w2} j ended.Fault answer h same cl =
+    (λ n8. ((cl.done n8).0 ∙ ap (λ (v : Option (List ℕ)). plus v read_fault_text) same, (cl.done n8).1), λ is8. subst (λ (v : Option (List ℕ)). Partly v w2 read_fault_text) same (cl.part is8))
+top_absent j ended.TooLong answer h same cl = absurd cc
+top_absent j (ended.Refused s) answer h same cl = absurd cc
+
+pub ended_is : (e : declared.Ended) → (let r : Result declared.Ended Failed = Ok e in r ≡ Ok ended.Fault) → e ≡ ended.Fault
+ended_is e h = cc
+
+pub not_ended : (f : Failed) → (let r : Result declared.Ended Failed = Err f in r ≡ Ok ended.Fault) → ⊥
+not_ended f h = cc
 
 -- with room for the output the last line fits too
 pub top_room : {p : Profile} {e : declared.Ended} {j : Judging} {k : engine.EngineKept} {w w1 w2 : Option (List ℕ)} {r r1 : Option ℕ} {told opened : Bool} {file rest : Option (List ℕ)} {answer : ℕ} →

@@ -8,7 +8,7 @@ ghost use Rattle.pl_profile.specs.declared.profile.Profile as named;
 ghost use Rattle.pl_report.specs.Lines.{profile_error_text, read_fault_text};
 ghost use Rattle.pl_cli.specs.Output.{output, status_of};
 ghost use Rattle.pl_cli.specs.Words.{Gives, GivesCut, GivesPartOfCut, NoFault};
-ghost use Rattle.pl_cli.specs.Source.{ProfileUnread, RefusesProfile, profile_under};
+ghost use Rattle.pl_cli.specs.Source.{ProfileUnread, RefusesProfile, TextAndStatus, profile_under};
 
 use crate::closing::write_last;
 use crate::profile::{NoProfile, profile_named};
@@ -44,13 +44,24 @@ pub fn check<H: Shelf, O: Sink>(
         profile_under (H.file shelf.old) profile.now ≡ Some (Err e) → NoFault result →
         Gives (profile_error_text (number_of e)) 3 (O.written out.old) (O.written out.new) result }
 
+    ensures refused_cut { H.told shelf.old ≡ true → (e : declared.ProfileError) →
+        profile_under (H.file shelf.old) profile.now ≡ Some (Err e) → result ≡ 7 →
+        ProfileUnread (H.file shelf.old) profile.now (H.is_open shelf.new) (H.rest shelf.new) × (O.written out.new ≡ plus (O.written out.old) read_fault_text) }
+    ensures refused_part { H.told shelf.old ≡ true → (e : declared.ProfileError) →
+        profile_under (H.file shelf.old) profile.now ≡ Some (Err e) → result ≡ 8 →
+        Partly (O.written out.old) (O.written out.new) (profile_error_text (number_of e))
+        ⊎ (Rose (H.faults shelf.old) (H.faults shelf.new) × Partly (O.written out.old) (O.written out.new) read_fault_text) }
+
     // Where reading failed, `read fault` stands alone or behind the lines of what was read of the capture.
     ensures cut_short { H.told shelf.old ≡ true → (p : named.Profile) (b : List ℕ) →
         profile_under (H.file shelf.old) profile.now ≡ Some (Ok p) → H.file shelf.old capture.now ≡ Some b → result ≡ 7 →
         (ProfileUnread (H.file shelf.old) profile.now (H.is_open shelf.new) (H.rest shelf.new) × (O.written out.new ≡ plus (O.written out.old) read_fault_text))
         ⊎ GivesCut p b (H.is_open shelf.new) (H.rest shelf.new) (O.written out.old) (O.written out.new) }
-    ensures no_profile { H.told shelf.old ≡ true → profile_under (H.file shelf.old) profile.now ≡ None → result ≢ 8 →
-        Gives read_fault_text 7 (O.written out.old) (O.written out.new) result }
+    ensures no_profile { H.told shelf.old ≡ true → profile_under (H.file shelf.old) profile.now ≡ None →
+        TextAndStatus read_fault_text 7 (O.written out.old) (O.written out.new) result }
+    ensures no_capture { H.told shelf.old ≡ true → (p : named.Profile) →
+        profile_under (H.file shelf.old) profile.now ≡ Some (Ok p) → H.file shelf.old capture.now ≡ None → result ≢ 9 →
+        TextAndStatus read_fault_text 7 (O.written out.old) (O.written out.new) result }
 
     // Where writing failed, a part of one of these was written.
     ensures part { H.told shelf.old ≡ true → (p : named.Profile) (b : List ℕ) →
@@ -92,6 +103,8 @@ fn check_under<H: Shelf, O: Sink>(
         Gives (output profile b) (status_of profile b) (O.written out.old) (O.written out.new) result }
     ensures cut_short { H.told shelf.old ≡ true → (b : List ℕ) → H.file shelf.old capture.now ≡ Some b → result ≡ 7 →
         GivesCut profile b (H.is_open shelf.new) (H.rest shelf.new) (O.written out.old) (O.written out.new) }
+    ensures no_capture { H.told shelf.old ≡ true → H.file shelf.old capture.now ≡ None → result ≢ 9 →
+        TextAndStatus read_fault_text 7 (O.written out.old) (O.written out.new) result }
     ensures part { H.told shelf.old ≡ true → (b : List ℕ) → H.file shelf.old capture.now ≡ Some b → result ≡ 8 →
         Partly (O.written out.old) (O.written out.new) (output profile b)
         ⊎ (Rose (H.faults shelf.old) (H.faults shelf.new)

@@ -7,7 +7,7 @@ ghost use Rattle.pl_profile.specs.declared.error.ProfileError as declared;
 ghost use Rattle.pl_profile.specs.declared.profile.Profile as named;
 ghost use Rattle.pl_report.specs.Lines.{profile_error_text, read_fault_text, usage_text};
 ghost use Rattle.pl_cli.specs.Output.{output, status_of};
-ghost use Rattle.pl_cli.specs.Source.{ProfileUnread, profile_under};
+ghost use Rattle.pl_cli.specs.Source.{ProfileUnread, TextAndStatus, profile_under};
 ghost use Rattle.pl_cli.specs.Words.{Checks, Gives, GivesCut, GivesPartOfCut, IsCheck, IsNoCommand, IsUnrisen, NoFault, RunsCleanly};
 
 use crate::checking::check;
@@ -30,7 +30,7 @@ pub fn run<H: Shelf, O: Sink>(alloc: Global, words: &[&str], shelf: &mut H, out:
     ensures refused { (profile capture : List ℕ) → IsCheck (map (λ w. w.now) words.now) profile capture → H.told shelf.old ≡ true →
         (e : declared.ProfileError) → profile_under (H.file shelf.old) profile ≡ Some (Err e) →
         NoFault result → Gives (profile_error_text (number_of e)) 3 (O.written out.old) (O.written out.new) result }
-    ensures usage { IsNoCommand (map (λ w. w.now) words.now) → result ≢ 8 → Gives usage_text 2 (O.written out.old) (O.written out.new) result }
+    ensures usage { IsNoCommand (map (λ w. w.now) words.now) → TextAndStatus usage_text 2 (O.written out.old) (O.written out.new) result }
 
     // 2. Status 0: the capture was read to its end, it ended with its end record, and no rule breaks at any item.
     ensures clean { (p : named.Profile) (b : List ℕ) → Checks (map (λ w. w.now) words.now) (H.told shelf.old) (H.file shelf.old) p b → result ≡ 0 → RunsCleanly p b }
@@ -42,13 +42,23 @@ pub fn run<H: Shelf, O: Sink>(alloc: Global, words: &[&str], shelf: &mut H, out:
         (ProfileUnread (H.file shelf.old) names.profile_name (H.is_open shelf.new) (H.rest shelf.new) × (O.written out.new ≡ plus (O.written out.old) read_fault_text))
         ⊎ GivesCut p b (H.is_open shelf.new) (H.rest shelf.new) (O.written out.old) (O.written out.new) }
     ensures no_profile { (profile capture : List ℕ) → IsCheck (map (λ w. w.now) words.now) profile capture → H.told shelf.old ≡ true →
-        profile_under (H.file shelf.old) profile ≡ None → result ≢ 8 → Gives read_fault_text 7 (O.written out.old) (O.written out.new) result }
+        profile_under (H.file shelf.old) profile ≡ None → TextAndStatus read_fault_text 7 (O.written out.old) (O.written out.new) result }
+    ensures no_capture { (profile capture : List ℕ) → IsCheck (map (λ w. w.now) words.now) profile capture → H.told shelf.old ≡ true →
+        (p : named.Profile) → profile_under (H.file shelf.old) profile ≡ Some (Ok p) → H.file shelf.old capture ≡ None →
+        result ≢ 9 → TextAndStatus read_fault_text 7 (O.written out.old) (O.written out.new) result }
+    ensures refused_cut { (profile capture : List ℕ) → IsCheck (map (λ w. w.now) words.now) profile capture → H.told shelf.old ≡ true →
+        (e : declared.ProfileError) → profile_under (H.file shelf.old) profile ≡ Some (Err e) → result ≡ 7 →
+        ProfileUnread (H.file shelf.old) profile (H.is_open shelf.new) (H.rest shelf.new) × (O.written out.new ≡ plus (O.written out.old) read_fault_text) }
     ensures write_fault { result ≡ 8 → Rose (O.faults out.old) (O.faults out.new) }
     ensures part { (p : named.Profile) (b : List ℕ) (names : Checks (map (λ w. w.now) words.now) (H.told shelf.old) (H.file shelf.old) p b) → result ≡ 8 →
         Partly (O.written out.old) (O.written out.new) (output p b)
         ⊎ (Rose (H.faults shelf.old) (H.faults shelf.new)
         × ((ProfileUnread (H.file shelf.old) names.profile_name (H.is_open shelf.new) (H.rest shelf.new) × Partly (O.written out.old) (O.written out.new) read_fault_text)
         ⊎ GivesPartOfCut p b (H.is_open shelf.new) (H.rest shelf.new) (O.written out.old) (O.written out.new))) }
+    ensures refused_part { (profile capture : List ℕ) → IsCheck (map (λ w. w.now) words.now) profile capture → H.told shelf.old ≡ true →
+        (e : declared.ProfileError) → profile_under (H.file shelf.old) profile ≡ Some (Err e) → result ≡ 8 →
+        Partly (O.written out.old) (O.written out.new) (profile_error_text (number_of e))
+        ⊎ (Rose (H.faults shelf.old) (H.faults shelf.new) × Partly (O.written out.old) (O.written out.new) read_fault_text) }
     ensures shelf_kept { result ≢ 7 → result ≢ 8 → H.faults shelf.new ≡ H.faults shelf.old }
     ensures sink_kept { result ≢ 8 → O.faults out.new ≡ O.faults out.old }
 

@@ -1,11 +1,13 @@
 //! `check` from the opening of the capture on: no call from here takes memory.
-ghost use Rattle.std.specs.Prelude.{◌≡◌, ◌≢◌, ◌⊎◌, ◌+◌, ◌≤◌, ◌<◌, List, ℕ, [], Bool, true, false, Some, IsSome, IfOk, OnErr, length, take};
+ghost use Rattle.std.specs.Prelude.{◌≡◌, ◌≢◌, ◌⊎◌, ◌+◌, ◌≤◌, ◌<◌, List, ℕ, [], Bool, true, false, None, Some, IsSome, Ok, IfOk, OnErr, length, take};
 ghost use Rattle.pl_io.specs.Faults.{HasCause, Rose};
 ghost use Rattle.pl_io.specs.Told.{plus, HasRoom, Partly};
 ghost use Rattle.pl_capture.specs.Reading.{reading};
 ghost use Rattle.pl_engine.specs.Engine.{StandsFor};
 ghost use Rattle.pl_engine.specs.Verdicts.{history_after};
 ghost use Rattle.pl_cli.specs.Output.{cut, items_judged, limit, output, status_of};
+ghost use Rattle.pl_report.specs.Lines.{read_fault_text};
+ghost use Rattle.pl_cli.specs.Source.{TextAndStatus};
 ghost use Rattle.pl_cli.specs.Progress.{CaptureJudged, ReadOf, ShelfCause, is_fault, nothing_judged};
 
 use crate::capture::read_pieces;
@@ -48,6 +50,9 @@ pub fn check_with<H: Shelf, O: Sink>(
         ⊎ (Rose (H.faults shelf.old) (H.faults shelf.new)
         × ((read : List ℕ) × ReadOf b (H.is_open shelf.new) (H.rest shelf.new) read × Partly (O.written out.old) (O.written out.new) (cut engine.old.profile read))) }
 
+    // A capture that isn't there is a fault of the shelf before anything is read.
+    ensures no_capture { H.told shelf.old ≡ true → H.file shelf.old capture.now ≡ None → TextAndStatus read_fault_text 7 (O.written out.old) (O.written out.new) result }
+
     ensures known { result ≤ 8 }
     ensures read_fault { result ≡ 7 → Rose (H.faults shelf.old) (H.faults shelf.new) }
     ensures write_fault { result ≡ 8 → Rose (O.faults out.old) (O.faults out.new) }
@@ -78,6 +83,7 @@ fn read_capture<H: Shelf, O: Sink>(
     requires engine { StandsFor engine.old [] }
     ensures judged { CaptureJudged engine.old.profile result judging.new engine.new (O.written out.old) (O.written out.new) (O.room out.old) (O.room out.new)
         (H.told shelf.old) (H.file shelf.old capture.now) (H.is_open shelf.new) (H.rest shelf.new) }
+    ensures absent { H.told shelf.old ≡ true → H.file shelf.old capture.now ≡ None → (result ≡ Ok Ended.Fault) × (O.written out.new ≡ O.written out.old) }
     ensures never_fails { H.sure shelf.old ≡ true → IsSome (H.file shelf.old capture.now) → IfOk result (λ ended. is_fault ended ≡ false) }
     ensures shelf_cause { IfOk result (λ ended. ShelfCause ended (H.faults shelf.old) (H.faults shelf.new)) }
     ensures shelf_kept { OnErr result (H.faults shelf.new ≡ H.faults shelf.old) }

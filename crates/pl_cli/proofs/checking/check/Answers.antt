@@ -4,7 +4,7 @@ use Rattle.pl_io.specs.Told.{plus, HasRoom}
 use Rattle.pl_cli.specs.Output.{output, status_of}
 use Rattle.pl_cli.specs.Source.{profile_under}
 use Rattle.pl_cli.proofs.Profiles.{cut_under, part_under, same_profile}
-use Rattle.pl_cli.proofs.Sources.{lacking, lacking_absent, lacking_exact, lacking_fault, lacking_kept, lacking_memory, lacking_refused, lacking_room, lacking_sure, later_part, named_not_none, named_not_refused, some_named, there, unread_cut, unread_part}
+use Rattle.pl_cli.proofs.Sources.{lacking, lacking_absent, lacking_exact, lacking_fault, lacking_kept, lacking_line, lacking_memory, lacking_refused, lacking_room, lacking_sure, later_part, named_not_none, named_not_refused, refused_part, some_named, there, unread_cut, unread_part}
 use Rattle.pl_cli.proofs.checking.check.Goals as goal
 
 pub returns-in-Ok-clause-exact : goal.returns-in-Ok-clause-exact
@@ -23,7 +23,7 @@ returns-in-Ok-clause-cut_short g c = λ told p b source file is7.
     inr (cut_under _ p b _ _ _ _ same (e.0, e.1, e.2))
 
 pub returns-in-Ok-clause-no_profile : goal.returns-in-Ok-clause-no_profile
-returns-in-Ok-clause-no_profile g c = λ told source n8. absurd (named_not_none _ c.in-Ok.profile (c.in-Ok.ensures.named told) source)
+returns-in-Ok-clause-no_profile g c = λ told source. absurd (named_not_none _ c.in-Ok.profile (c.in-Ok.ensures.named told) source)
 
 pub returns-in-Ok-clause-part : goal.returns-in-Ok-clause-part
 returns-in-Ok-clause-part g c = λ told p b source file is8.
@@ -69,12 +69,12 @@ returns-in-Err-clause-refused g c = λ told e source fine.
 
 pub returns-in-Err-clause-cut_short : goal.returns-in-Err-clause-cut_short
 returns-in-Err-clause-cut_short g c = λ told p b source file is7.
-    inl (unread_cut (profile_under (g.H.Shelf.file c.args.shelf.now) c.args.profile.now) _ _ _ p c.in-Err.none _ c.refuse_profile.ensures.refused (c.in-Err.ensures.named told) (c.in-Err.ensures.unread told) source is7)
+    inl (unread_cut (profile_under (g.H.Shelf.file c.args.shelf.now) c.args.profile.now) _ _ _ c.in-Err.none _ c.refuse_profile.ensures.refused (c.in-Err.ensures.unread told) is7)
 
 pub returns-in-Err-clause-no_profile : goal.returns-in-Err-clause-no_profile
-returns-in-Err-clause-no_profile g c = λ told source n8.
+returns-in-Err-clause-no_profile g c = λ told source.
     lacking_absent (lacking (profile_under (g.H.Shelf.file c.args.shelf.now) c.args.profile.now) c.in-Err.none _ _ _ _ _ c.refuse_profile.ensures.refused c.in-Err.ensures.cause)
-    (c.in-Err.ensures.named told) source n8
+    (c.in-Err.ensures.named told) source
 
 pub returns-in-Err-clause-part : goal.returns-in-Err-clause-part
 returns-in-Err-clause-part g c = λ told p b source file is8.
@@ -101,3 +101,26 @@ pub returns-in-Err-clause-sink_room : goal.returns-in-Err-clause-sink_room
 returns-in-Err-clause-sink_room g c = λ sure p b source file room.
     lacking_room p _ (lacking (profile_under (g.H.Shelf.file c.args.shelf.now) c.args.profile.now) c.in-Err.none _ _ _ _ _ c.refuse_profile.ensures.refused c.in-Err.ensures.cause)
     (c.in-Err.ensures.named (g.met.H.Shelf.sure_is_told _ sure)) (c.in-Err.ensures.never_fails sure (some_named _ p source)) source c.refuse_profile.ensures.sink_kept
+
+pub returns-in-Ok-clause-refused_cut : goal.returns-in-Ok-clause-refused_cut
+returns-in-Ok-clause-refused_cut g c = λ told e source is7. absurd (named_not_refused _ c.in-Ok.profile e (c.in-Ok.ensures.named told) source)
+
+pub returns-in-Ok-clause-refused_part : goal.returns-in-Ok-clause-refused_part
+returns-in-Ok-clause-refused_part g c = λ told e source is8. absurd (named_not_refused _ c.in-Ok.profile e (c.in-Ok.ensures.named told) source)
+
+pub returns-in-Ok-clause-no_capture : goal.returns-in-Ok-clause-no_capture
+returns-in-Ok-clause-no_capture g c = λ told p source none n9.
+    c.check_under.ensures.no_capture (c.in-Ok.ensures.still_told ∙ told) (c.in-Ok.ensures.files c.args.capture.now ∙ none) n9
+
+pub returns-in-Err-clause-refused_cut : goal.returns-in-Err-clause-refused_cut
+returns-in-Err-clause-refused_cut g c = λ told e source is7.
+    unread_cut (profile_under (g.H.Shelf.file c.args.shelf.now) c.args.profile.now) _ _ _ c.in-Err.none _ c.refuse_profile.ensures.refused (c.in-Err.ensures.unread told) is7
+
+pub returns-in-Err-clause-refused_part : goal.returns-in-Err-clause-refused_part
+returns-in-Err-clause-refused_part g c = λ told e source is8.
+    refused_part (profile_under (g.H.Shelf.file c.args.shelf.now) c.args.profile.now) _ _ _ _ _ e c.in-Err.none c.refuse_profile.ensures.refused (c.in-Err.ensures.named told) c.in-Err.ensures.cause source is8
+
+pub returns-in-Err-clause-no_capture : goal.returns-in-Err-clause-no_capture
+returns-in-Err-clause-no_capture g c = λ told p source none n9.
+    lacking_line p (lacking (profile_under (g.H.Shelf.file c.args.shelf.now) c.args.profile.now) c.in-Err.none _ _ _ _ _ c.refuse_profile.ensures.refused c.in-Err.ensures.cause)
+    (c.in-Err.ensures.named told) source n9

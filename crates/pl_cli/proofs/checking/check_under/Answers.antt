@@ -24,3 +24,6 @@ returns-in-Ok-clause-no_memory g c = λ is9. absurd (not_nine _ c.check_with.ens
 pub returns-in-Ok-clause-sink_room : goal.returns-in-Ok-clause-sink_room
 returns-in-Ok-clause-sink_room g c = λ sure b file room.
     c.check_with.ensures.sink_room sure b file (subst (λ p. HasRoom (g.O.Sink.room c.args.out.now) (length (output p b))) (sym c.in-Ok.ensures.profile) room)
+
+pub returns-in-Ok-clause-no_capture : goal.returns-in-Ok-clause-no_capture
+returns-in-Ok-clause-no_capture g c = λ told none n9. c.check_with.ensures.no_capture told none

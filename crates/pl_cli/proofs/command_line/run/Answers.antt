@@ -1,7 +1,7 @@
 use Rattle.std.proofs.Common.{◌∙◌, ap, sym, not}
 use Rattle.pl_cli.specs.Source.{profile_under}
 use Rattle.pl_cli.proofs.Commands.{above, clean_file, complete_by, not_risen, operands, some_at}
-use Rattle.pl_cli.proofs.Sources.{unread_named, unread_part_named}
+use Rattle.pl_cli.proofs.Sources.{unread_named, unread_named_alone, unread_part_named}
 use Rattle.pl_cli.proofs.command_line.run.Goals as goal
 
 pub returns-then-is_check-clause-exact : goal.returns-then-is_check-clause-exact
@@ -14,7 +14,7 @@ returns-then-is_check-clause-refused g c = λ profile capture is told e source f
     (ap (profile_under (g.H.Shelf.file c.args.shelf.now)) (operands c.args.words.now _ profile capture is).0 ∙ source) fine
 
 pub returns-then-is_check-clause-usage : goal.returns-then-is_check-clause-usage
-returns-then-is_check-clause-usage g c = λ none n8.
+returns-then-is_check-clause-usage g c = λ none.
     let is = c.is_check.ensures.check c.if-is_check.true in absurd (none is.0 is.1 is.2)
 
 pub returns-then-is_check-clause-clean : goal.returns-then-is_check-clause-clean
@@ -30,8 +30,8 @@ returns-then-is_check-clause-cut_short g c = λ p b h is7.
     (ap (g.H.Shelf.file c.args.shelf.now) (operands c.args.words.now _ h.profile_name h.capture_name h.command).1 ∙ h.capture_is) is7)
 
 pub returns-then-is_check-clause-no_profile : goal.returns-then-is_check-clause-no_profile
-returns-then-is_check-clause-no_profile g c = λ profile capture is told source n8. c.check.ensures.no_profile told
-    (ap (profile_under (g.H.Shelf.file c.args.shelf.now)) (operands c.args.words.now _ profile capture is).0 ∙ source) n8
+returns-then-is_check-clause-no_profile g c = λ profile capture is told source. c.check.ensures.no_profile told
+    (ap (profile_under (g.H.Shelf.file c.args.shelf.now)) (operands c.args.words.now _ profile capture is).0 ∙ source)
 
 pub returns-then-is_check-clause-part : goal.returns-then-is_check-clause-part
 returns-then-is_check-clause-part g c = λ p b h is8.
@@ -88,7 +88,7 @@ returns-else-is_check-clause-cut_short g c = λ p b h is7.
     absurd (c.is_check.ensures.none (ap not c.if-is_check.false) h.profile_name h.capture_name h.command)
 
 pub returns-else-is_check-clause-no_profile : goal.returns-else-is_check-clause-no_profile
-returns-else-is_check-clause-no_profile g c = λ profile capture is told source n8.
+returns-else-is_check-clause-no_profile g c = λ profile capture is told source.
     absurd (c.is_check.ensures.none (ap not c.if-is_check.false) profile capture is)
 
 pub returns-else-is_check-clause-part : goal.returns-else-is_check-clause-part
@@ -106,3 +106,27 @@ returns-else-is_check-clause-shelf_sure g c = λ sure profile capture is some fi
 pub returns-else-is_check-clause-sink_room : goal.returns-else-is_check-clause-sink_room
 returns-else-is_check-clause-sink_room g c = λ sure p b h room.
     absurd (c.is_check.ensures.none (ap not c.if-is_check.false) h.profile_name h.capture_name h.command)
+
+pub returns-then-is_check-clause-no_capture : goal.returns-then-is_check-clause-no_capture
+returns-then-is_check-clause-no_capture g c = λ profile capture is told p source none n9. c.check.ensures.no_capture told p
+    (ap (profile_under (g.H.Shelf.file c.args.shelf.now)) (operands c.args.words.now _ profile capture is).0 ∙ source) (ap (g.H.Shelf.file c.args.shelf.now) (operands c.args.words.now _ profile capture is).1 ∙ none) n9
+
+pub returns-then-is_check-clause-refused_cut : goal.returns-then-is_check-clause-refused_cut
+returns-then-is_check-clause-refused_cut g c = λ profile capture is told e source is7.
+    unread_named_alone _ _ _ _ _ _ (operands c.args.words.now _ profile capture is).0 (c.check.ensures.refused_cut told e (ap (profile_under (g.H.Shelf.file c.args.shelf.now)) (operands c.args.words.now _ profile capture is).0 ∙ source) is7)
+
+pub returns-then-is_check-clause-refused_part : goal.returns-then-is_check-clause-refused_part
+returns-then-is_check-clause-refused_part g c = λ profile capture is told e source is8. c.check.ensures.refused_part told e
+    (ap (profile_under (g.H.Shelf.file c.args.shelf.now)) (operands c.args.words.now _ profile capture is).0 ∙ source) is8
+
+pub returns-else-is_check-clause-no_capture : goal.returns-else-is_check-clause-no_capture
+returns-else-is_check-clause-no_capture g c = λ profile capture is told p source none n9.
+    absurd (c.is_check.ensures.none (ap not c.if-is_check.false) profile capture is)
+
+pub returns-else-is_check-clause-refused_cut : goal.returns-else-is_check-clause-refused_cut
+returns-else-is_check-clause-refused_cut g c = λ profile capture is told e source is7.
+    absurd (c.is_check.ensures.none (ap not c.if-is_check.false) profile capture is)
+
+pub returns-else-is_check-clause-refused_part : goal.returns-else-is_check-clause-refused_part
+returns-else-is_check-clause-refused_part g c = λ profile capture is told e source is8.
+    absurd (c.is_check.ensures.none (ap not c.if-is_check.false) profile capture is)

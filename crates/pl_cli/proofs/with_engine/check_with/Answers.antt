@@ -1,5 +1,5 @@
 use Rattle.std.proofs.Common.{◌∙◌, sym, subst, refl, inl, IsSome}
-use Rattle.pl_cli.proofs.Tops.{cause_kept, cause_rose, not_fault, top_cut, top_exact, top_known, top_lost, top_part, top_room}
+use Rattle.pl_cli.proofs.Tops.{cause_kept, cause_rose, ended_is, not_ended, not_fault, top_absent, top_cut, top_exact, top_known, top_lost, top_part, top_room}
 use Rattle.pl_cli.proofs.with_engine.check_with.Goals as goal
 
 pub returns-in-Ok-clause-exact : goal.returns-in-Ok-clause-exact
@@ -38,3 +38,10 @@ returns-in-Err-clause-sink_room g c = λ sure b file room.
 
 pub returns-in-Ok-clause-known : goal.returns-in-Ok-clause-known
 returns-in-Ok-clause-known g c = top_known c.close.result c.in-Ok.ensures.judged c.close.ensures.closed
+
+pub returns-in-Ok-clause-no_capture : goal.returns-in-Ok-clause-no_capture
+returns-in-Ok-clause-no_capture g c = λ told none. let a = c.in-Ok.ensures.absent told none in
+    top_absent _ c.in-Ok.ended c.close.result (ended_is c.in-Ok.ended a.0) a.1 c.close.ensures.closed
+
+pub returns-in-Err-clause-no_capture : goal.returns-in-Err-clause-no_capture
+returns-in-Err-clause-no_capture g c = λ told none. absurd (not_ended _ (c.in-Err.ensures.absent told none).0)
