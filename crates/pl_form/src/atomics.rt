@@ -1,0 +1,59 @@
+//! The rules M11 and M12: the size and the place of the operands of AtomicOps.
+//! PCI Express Base Specification 5.0, chapter 2, transaction layer protocol: AtomicOp requests.
+ghost use Rattle.std.specs.Prelude.{◌≡◌, ◌==◌, ◌%◌, ◌+◌, ◌≤◌, ◌++◌, true};
+ghost use Rattle.arrayvec.specs.ArrayVec.{array_vec_len};
+ghost use Rattle.pl_tlp.specs.Fields.{fields};
+ghost use Rattle.pl_form.specs.Atomics as spec;
+ghost use Rattle.pl_form.specs.Verdicts.{atomic_verdicts};
+
+use crate::kinds::{is_atomic, is_compare_and_swap};
+use crate::verdict::add_if;
+use pl_base::{Found, Rule};
+use pl_tlp::Tlp;
+
+/// Adds what a TLP breaks of M11 and M12.
+#[tactic(auto, unfolding(crate::specs::Verdicts::atomic_verdicts))]
+pub(crate) fn judge_atomic(tlp: &Tlp, at: u64, found: &mut Found)
+    requires { array_vec_len found.old ≤ 30 }
+    ensures items { found.new.items ≡ found.old.items ++ atomic_verdicts (fields tlp.now) at }
+    ensures most { array_vec_len found.new ≤ array_vec_len found.old + 2 }
+{
+    add_if(breaks_m11(tlp), Rule::M11, at, found);
+    add_if(breaks_m12(tlp), Rule::M12, at, found);
+}
+
+fn breaks_m11(tlp: &Tlp) -> bool
+    ensures { result ≡ spec.breaks_m11 (fields tlp.now) }
+{
+    is_atomic(tlp.kind) && !has_operand_length(tlp)
+}
+
+/// Whether the Length is that of one operand of 1 or 2 DW, or for Cas of two operands of 1, 2 or 4 DW.
+fn has_operand_length(tlp: &Tlp) -> bool
+    ensures { result ≡ spec.has_operand_length (fields tlp.now) }
+{
+    if is_compare_and_swap(tlp.kind) {
+        matches!(tlp.length, 2 | 4 | 8)
+    } else {
+        matches!(tlp.length, 1 | 2)
+    }
+}
+
+fn breaks_m12(tlp: &Tlp) -> bool
+    ensures { result ≡ spec.breaks_m12 (fields tlp.now) }
+{
+    is_atomic(tlp.kind) && has_operand_length(tlp) && !is_aligned(tlp)
+}
+
+/// Whether the address is a multiple of the operand.
+fn is_aligned(tlp: &Tlp) -> bool
+    requires { spec.has_operand_length (fields tlp.now) ≡ true }
+    ensures { result ≡ (fields tlp.now).address % spec.operand_bytes (fields tlp.now) == 0 }
+{
+    let operand = if is_compare_and_swap(tlp.kind) {
+        2 * u64::from(tlp.length)
+    } else {
+        4 * u64::from(tlp.length)
+    };
+    tlp.address % operand == 0
+}

@@ -1,0 +1,57 @@
+//! The rule M18: the digest of a TLP is its ECRC.
+//! PCI Express Base Specification 5.0, chapter 2, transaction layer protocol: ECRC rules.
+ghost use Rattle.std.specs.Prelude.{◌≡◌, ◌<◌, ◌≤◌, ◌++◌, ℕ, List, length};
+ghost use Rattle.pl_crc.specs.Crc32.{StandsFor};
+ghost use Rattle.pl_tlp.specs.Fields.{fields};
+ghost use Rattle.pl_form.specs.Digest as spec;
+
+use crate::prefixes::{PREFIX, is_end_end};
+use pl_crc::Crc32;
+use pl_tlp::Tlp;
+
+pub(crate) fn breaks_m18(tlp: &Tlp) -> bool
+    requires { 12 ≤ length tlp.now.header.now }
+    ensures { result ≡ spec.breaks_m18 (fields tlp.now) }
+{
+    match &tlp.digest {
+        Some(digest) => digest.as_slice() != ecrc(tlp).as_slice(),
+        None => false,
+    }
+}
+
+/// The ECRC over the End-End prefixes, the header with its two variant bits taken as 1, and the data.
+fn ecrc(tlp: &Tlp) -> [u8; 4]
+    requires { 12 ≤ length tlp.now.header.now }
+    ensures { result ≡ spec.ecrc_of (fields tlp.now) }
+{
+    let header = tlp.header;
+    let mut crc = end_end_prefixes(tlp.prefixes);
+    crc.update(&[header[0] | 0b0000_0001, header[1], header[2] | 0b0100_0000]);
+    crc.update(&header[3..]);
+    crc.update(tlp.payload);
+    crc.value()
+}
+
+/// The CRC of the End-End prefixes.
+fn end_end_prefixes(prefixes: &[u8]) -> Crc32
+    ensures { StandsFor result (spec.end_end_prefixes prefixes.now) }
+{
+    let mut crc = Crc32::new();
+    let mut rest = prefixes;
+    while rest.len() >= PREFIX {
+        let (prefix, behind) = rest.split_at(PREFIX);
+        add_end_end(&mut crc, prefix);
+        rest = behind;
+    }
+    crc
+}
+
+/// Adds a prefix where it is End-End.
+fn add_end_end(crc: &mut Crc32, prefix: &[u8])
+    requires { 0 < length prefix.now }
+    ensures { (given : List ℕ) → StandsFor crc.old given → StandsFor crc.new (given ++ spec.if_end_end prefix.now) }
+{
+    if is_end_end(prefix[0]) {
+        crc.update(prefix);
+    }
+}

@@ -1,0 +1,100 @@
+//! What a taken TLP breaks by itself: M1 to M20.
+//! PCI Express Base Specification 5.0, chapter 2, transaction layer protocol.
+ghost use Rattle.std.specs.Prelude.{◌≡◌, ◌+◌, ◌≤◌, ◌++◌, length, true};
+ghost use Rattle.arrayvec.specs.ArrayVec.{array_vec_len};
+ghost use Rattle.pl_tlp.specs.Fields.{fields, outcome, Whole};
+ghost use Rattle.pl_tlp.specs.Fit.{Fits, FitsIfWhole};
+ghost use Rattle.pl_form.specs.Verdicts.{formation_verdicts, kind_verdicts, other_verdicts, verdict_if, HasHeaderIfWhole};
+
+use crate::atomics::judge_atomic;
+use crate::configuration::judge_configuration;
+use crate::digest::breaks_m18;
+use crate::memory::judge_memory;
+use crate::messages::judge_message;
+use crate::prefixes::breaks_m19;
+use crate::traffic::{breaks_m16, breaks_m17, breaks_m20};
+use crate::verdict::add_if;
+use pl_base::{Dir, Found, Rule};
+use pl_profile::Profile;
+use pl_tlp::{Kind, Tlp, View};
+
+/// The verdicts on the TLP of item `at`, which travels in direction `dir`: the formation rules that it
+/// breaks, in their order, and each cites nothing.
+#[tactic(auto, unfolding(crate::specs::Verdicts::formation_verdicts))]
+pub fn judge(profile: &Profile, dir: Dir, view: &View, at: u64) -> Found
+    requires fits { FitsIfWhole (outcome view.now) }
+    requires header { HasHeaderIfWhole (outcome view.now) }
+    ensures verdicts { result.items ≡ formation_verdicts profile.now dir (outcome view.now) at }
+    ensures most { array_vec_len result ≤ 18 }
+{
+    match view {
+        View::Whole(tlp) => judge_whole(profile, dir, tlp, at),
+        View::Undefined => found_one(Rule::M1, at),
+        View::WrongSize => found_one(Rule::M2, at),
+    }
+}
+
+/// The verdict on a TLP that isn't whole.
+fn found_one(rule: Rule, at: u64) -> Found
+    ensures items { result.items ≡ verdict_if true rule at }
+    ensures most { array_vec_len result ≤ 1 }
+{
+    let mut found = Found::new();
+    add_if(true, rule, at, &mut found);
+    found
+}
+
+/// What a whole TLP breaks: M3 to M20.
+#[tactic(auto, unfolding(crate::specs::Verdicts::formation_verdicts))]
+fn judge_whole(profile: &Profile, dir: Dir, tlp: &Tlp, at: u64) -> Found
+    requires fits { Fits (fields tlp.now) }
+    requires header { 12 ≤ length tlp.now.header.now }
+    ensures items { result.items ≡ formation_verdicts profile.now dir (Whole (fields tlp.now)) at }
+    ensures most { array_vec_len result ≤ 18 }
+{
+    let mut found = Found::new();
+    judge_kind(profile, dir, tlp, at, &mut found);
+    judge_other(profile, dir, tlp, at, &mut found);
+    found
+}
+
+/// Adds what a TLP breaks of M3 to M15. The rules that can't apply to its kind aren't tried.
+#[tactic(auto, unfolding(crate::specs::Verdicts::kind_verdicts, crate::specs::Verdicts::memory_verdicts, crate::specs::Verdicts::configuration_verdicts, crate::specs::Verdicts::atomic_verdicts, crate::specs::Verdicts::message_verdicts))]
+fn judge_kind(profile: &Profile, dir: Dir, tlp: &Tlp, at: u64, found: &mut Found)
+    requires { array_vec_len found.old ≤ 19 }
+    ensures items { found.new.items ≡ found.old.items ++ kind_verdicts profile.now dir (fields tlp.now) at }
+    ensures most { array_vec_len found.new ≤ array_vec_len found.old + 13 }
+{
+    match tlp.kind {
+        Kind::MRd | Kind::MRdLk | Kind::MWr => judge_memory(profile, dir, tlp, at, found),
+        Kind::IORd | Kind::IOWr => judge_configuration(dir, tlp, at, found),
+        Kind::CfgRd0 | Kind::CfgWr0 | Kind::CfgRd1 | Kind::CfgWr1 => {
+            judge_configuration(dir, tlp, at, found)
+        }
+        Kind::FetchAdd | Kind::Swap | Kind::Cas => {
+            judge_memory(profile, dir, tlp, at, found);
+            judge_atomic(tlp, at, found);
+        }
+        Kind::Msg | Kind::MsgD => {
+            judge_memory(profile, dir, tlp, at, found);
+            judge_message(dir, tlp, at, found);
+        }
+        Kind::Cpl | Kind::CplD | Kind::CplLk | Kind::CplDLk => {}
+    }
+}
+
+/// Adds what a TLP breaks of M16 to M20.
+#[tactic(auto, unfolding(crate::specs::Verdicts::other_verdicts))]
+fn judge_other(profile: &Profile, dir: Dir, tlp: &Tlp, at: u64, found: &mut Found)
+    requires fits { Fits (fields tlp.now) }
+    requires header { 12 ≤ length tlp.now.header.now }
+    requires room { array_vec_len found.old ≤ 27 }
+    ensures items { found.new.items ≡ found.old.items ++ other_verdicts profile.now dir (fields tlp.now) at }
+    ensures most { array_vec_len found.new ≤ array_vec_len found.old + 5 }
+{
+    add_if(breaks_m16(profile, tlp), Rule::M16, at, found);
+    add_if(breaks_m17(profile, dir, tlp), Rule::M17, at, found);
+    add_if(breaks_m18(tlp), Rule::M18, at, found);
+    add_if(breaks_m19(tlp), Rule::M19, at, found);
+    add_if(breaks_m20(profile, tlp), Rule::M20, at, found);
+}

@@ -1,0 +1,20 @@
+//! The formation rules: is one TLP well built for this port?
+//! PCI Express Base Specification 5.0, chapter 2, transaction layer protocol: packet definition.
+#![tactic(auto)]
+
+mod atomics;
+mod configuration;
+mod digest;
+mod formation;
+mod kinds;
+mod memory;
+mod messages;
+mod prefixes;
+mod table;
+mod traffic;
+mod verdict;
+
+pub use formation::judge;
+
+#[cfg(test)]
+mod tests;
