@@ -22,6 +22,7 @@ pub(crate) fn judge_atomic(tlp: &Tlp, at: u64, found: &mut Found)
     add_if(breaks_m12(tlp), Rule::M12, at, found);
 }
 
+/// M11: an AtomicOp whose Length is that of no operand.
 fn breaks_m11(tlp: &Tlp) -> bool
     ensures { result ≡ spec.breaks_m11 (fields tlp.now) }
 {
@@ -39,6 +40,7 @@ fn has_operand_length(tlp: &Tlp) -> bool
     }
 }
 
+/// M12: an AtomicOp of such a Length, whose address isn't a multiple of its operand.
 fn breaks_m12(tlp: &Tlp) -> bool
     ensures { result ≡ spec.breaks_m12 (fields tlp.now) }
 {

@@ -23,6 +23,7 @@ pub(crate) fn judge_configuration(dir: Dir, tlp: &Tlp, at: u64, found: &mut Foun
     add_if(breaks_m10(dir, tlp), Rule::M10, at, found);
 }
 
+/// M9: an I/O or Configuration request with another value in a fixed field.
 fn breaks_m9(tlp: &Tlp) -> bool
     ensures { result ≡ spec.breaks_m9 (fields tlp.now) }
 {
@@ -37,6 +38,7 @@ fn has_fixed_fields(tlp: &Tlp) -> bool
     tlp.tc == 0 && tlp.attr % 4 == 0 && tlp.at == 0 && tlp.last_be == 0 && tlp.length == 1
 }
 
+/// M10: a Configuration request that travels towards the Root Complex.
 fn breaks_m10(dir: Dir, tlp: &Tlp) -> bool
     ensures { result ≡ spec.breaks_m10 dir (fields tlp.now) }
 {

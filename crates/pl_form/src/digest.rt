@@ -9,6 +9,7 @@ use crate::prefixes::{PREFIX, is_end_end};
 use pl_crc::Crc32;
 use pl_tlp::Tlp;
 
+/// M18: it has a digest that isn't its ECRC.
 pub(crate) fn breaks_m18(tlp: &Tlp) -> bool
     requires { 12 ≤ length tlp.now.header.now }
     ensures { result ≡ spec.breaks_m18 (fields tlp.now) }

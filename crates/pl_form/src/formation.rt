@@ -4,7 +4,7 @@ ghost use Rattle.std.specs.Prelude.{◌≡◌, ◌+◌, ◌≤◌, ◌++◌, len
 ghost use Rattle.arrayvec.specs.ArrayVec.{array_vec_len};
 ghost use Rattle.pl_tlp.specs.Fields.{fields, outcome, Whole};
 ghost use Rattle.pl_tlp.specs.Fit.{Fits, FitsIfWhole};
-ghost use Rattle.pl_form.specs.Verdicts.{formation_verdicts, kind_verdicts, other_verdicts, verdict_if, HasHeaderIfWhole};
+ghost use Rattle.pl_form.specs.Verdicts.{formation_verdicts, kind_verdicts, other_verdicts, verdict_if, whole_verdicts, HasHeaderIfWhole};
 
 use crate::atomics::judge_atomic;
 use crate::configuration::judge_configuration;
@@ -20,7 +20,7 @@ use pl_tlp::{Kind, Tlp, View};
 
 /// The verdicts on the TLP of item `at`, which travels in direction `dir`: the formation rules that it
 /// breaks, in their order, and each cites nothing.
-#[tactic(auto, unfolding(crate::specs::Verdicts::formation_verdicts))]
+#[tactic(auto, unfolding(crate::specs::Verdicts::formation_verdicts, crate::specs::Verdicts::whole_verdicts))]
 pub fn judge(profile: &Profile, dir: Dir, view: &View, at: u64) -> Found
     requires fits { FitsIfWhole (outcome view.now) }
     requires header { HasHeaderIfWhole (outcome view.now) }
@@ -45,11 +45,11 @@ fn found_one(rule: Rule, at: u64) -> Found
 }
 
 /// What a whole TLP breaks: M3 to M20.
-#[tactic(auto, unfolding(crate::specs::Verdicts::formation_verdicts))]
+#[tactic(auto, unfolding(crate::specs::Verdicts::whole_verdicts))]
 fn judge_whole(profile: &Profile, dir: Dir, tlp: &Tlp, at: u64) -> Found
     requires fits { Fits (fields tlp.now) }
     requires header { 12 ≤ length tlp.now.header.now }
-    ensures items { result.items ≡ formation_verdicts profile.now dir (Whole (fields tlp.now)) at }
+    ensures items { result.items ≡ whole_verdicts profile.now dir (Whole (fields tlp.now)) at }
     ensures most { array_vec_len result ≤ 18 }
 {
     let mut found = Found::new();

@@ -35,6 +35,7 @@ pub(crate) fn is_too_long(profile: &Profile, dir: Dir, tlp: &Tlp) -> bool
     tlp.payload.len() > usize::from(profile.max_payload[dir.index()])
 }
 
+/// M3: MWr, MsgD or an AtomicOp whose data are longer than Max_Payload_Size.
 fn breaks_m3(profile: &Profile, dir: Dir, tlp: &Tlp) -> bool
     ensures { result ≡ spec.breaks_m3 profile.now dir (fields tlp.now) }
 {
@@ -53,6 +54,7 @@ fn is_judged(tlp: &Tlp) -> bool
     is_memory_request(tlp.kind) && tlp.at != 1
 }
 
+/// M4: a memory read of more bytes than Max_Read_Request_Size.
 fn breaks_m4(profile: &Profile, dir: Dir, tlp: &Tlp) -> bool
     ensures { result ≡ spec.breaks_m4 profile.now dir (fields tlp.now) }
 {
@@ -61,12 +63,14 @@ fn breaks_m4(profile: &Profile, dir: Dir, tlp: &Tlp) -> bool
         && 4 * u32::from(tlp.length) > u32::from(profile.max_read[dir.index()])
 }
 
+/// M5: a memory request that goes on behind a boundary of 4 KB.
 fn breaks_m5(tlp: &Tlp) -> bool
     ensures { result ≡ spec.breaks_m5 (fields tlp.now) }
 {
     is_judged(tlp) && tlp.address % 4096 + 4 * u64::from(tlp.length) > 4096
 }
 
+/// M6: a memory request or AtomicOp with a header of 4 DW, and an address below 4 GB.
 fn breaks_m6(tlp: &Tlp) -> bool
     ensures { result ≡ spec.breaks_m6 (fields tlp.now) }
 {
@@ -80,6 +84,7 @@ fn has_byte_enables(tlp: &Tlp) -> bool
     is_judged(tlp) && !tlp.th
 }
 
+/// M7: of one DW, byte enables in the field of the last DW; of more, none in one of both fields.
 fn breaks_m7(tlp: &Tlp) -> bool
     ensures { result ≡ spec.breaks_m7 (fields tlp.now) }
 {
@@ -88,6 +93,7 @@ fn breaks_m7(tlp: &Tlp) -> bool
             || (tlp.length > 1 && (tlp.first_be == 0 || tlp.last_be == 0)))
 }
 
+/// M8: of more than one DW, a gap in the enabled bytes.
 fn breaks_m8(tlp: &Tlp) -> bool
     ensures { result ≡ spec.breaks_m8 (fields tlp.now) }
 {

@@ -12,6 +12,7 @@ pub(crate) const PREFIX: usize = 4;
 /// The most End-End prefixes that a TLP may have.
 const MOST_END_END: usize = 4;
 
+/// M19: a local prefix stands after an End-End one, or there are more than four End-End ones.
 pub(crate) fn breaks_m19(tlp: &Tlp) -> bool
     ensures { result ≡ spec.breaks_m19 (fields tlp.now) }
 {

@@ -15,6 +15,7 @@ use pl_tlp::Tlp;
 /// What a profile has for a traffic class without a virtual channel.
 const NO_CHANNEL: u8 = 8;
 
+/// M16: the TC has no VC.
 #[tactic(auto, unfolding(pl_tlp::specs::Bits::bits))]
 pub(crate) fn breaks_m16(profile: &Profile, tlp: &Tlp) -> bool
     requires { Fits (fields tlp.now) }
@@ -23,12 +24,14 @@ pub(crate) fn breaks_m16(profile: &Profile, tlp: &Tlp) -> bool
     profile.tc_vc[usize::from(tlp.tc)] == NO_CHANNEL
 }
 
+/// M17: a completion whose data are longer than Max_Payload_Size.
 pub(crate) fn breaks_m17(profile: &Profile, dir: Dir, tlp: &Tlp) -> bool
     ensures { result ≡ spec.breaks_m17 profile.now dir (fields tlp.now) }
 {
     is_completion_with_data(tlp.kind) && is_too_long(profile, dir, tlp)
 }
 
+/// M20: a request that needs a completion uses Tag[7:5], where the requester has five bits of tag.
 pub(crate) fn breaks_m20(profile: &Profile, tlp: &Tlp) -> bool
     ensures { result ≡ spec.breaks_m20 profile.now (fields tlp.now) }
 {
