@@ -30,7 +30,10 @@ struct Link {
 
 impl Link {
     fn new() -> Link {
-        let profile = Profile::usual();
+        Link::with(Profile::usual())
+    }
+
+    fn with(profile: Profile) -> Link {
         Link {
             credits: Credits::new(&profile),
             profile,
@@ -289,6 +292,113 @@ fn what_came_before_the_initial_was_used(rt: HostRuntime) -> Result<(), Fail> {
         ],
     );
     link.breaks(&rt, write(1, 1), Rule::F9, Some(2));
+    Ok(())
+}
+
+#[test]
+fn a_class_out_of_turn_is_where_the_next_turn_begins(rt: HostRuntime) -> Result<(), Fail> {
+    let mut link = Link::new();
+    link.pass(
+        &rt,
+        &[
+            infinite(Down, Init1, Class::P),
+            infinite(Down, Init1, Class::Np),
+            infinite(Down, Init1, Class::Cpl),
+            infinite(Down, Init1, Class::P),
+        ],
+    );
+    link.breaks(&rt, infinite(Down, Init1, Class::Cpl), Rule::F2, Some(4));
+    link.pass(&rt, &[infinite(Down, Init1, Class::P)]);
+    Ok(())
+}
+
+#[test]
+fn a_class_is_judged_from_its_initial_on(rt: HostRuntime) -> Result<(), Fail> {
+    let mut link = Link::new();
+    link.pass(&rt, &[posted(Init1, 1, 0)]);
+    link.breaks(&rt, write(1, 1), Rule::F1, None);
+    let found = link.judge(&rt, write(1, 1));
+    let broken = [
+        Verdict {
+            rule: Rule::F1,
+            at: 3,
+            first: None,
+            second: None,
+        },
+        Verdict {
+            rule: Rule::F9,
+            at: 3,
+            first: Some(1),
+            second: None,
+        },
+    ];
+    assert_eq!(rt; found.as_slice(), broken.as_slice());
+    Ok(())
+}
+
+#[test]
+fn each_virtual_channel_has_its_own_credits(rt: HostRuntime) -> Result<(), Fail> {
+    let mut link = Link::with(Profile {
+        max_payload: [256, 256],
+        max_read: [512, 512],
+        rcb: [64, 64],
+        tag_bits: 8,
+        vcs: 2,
+        tc_vc: [0; 8],
+        endpoint: [false, true],
+        outstanding: 16_384,
+        unacknowledged: 2_048,
+    });
+    link.pass(&rt, &endless());
+    let update = fc(Update, Class::P, 0, 0);
+    link.breaks(
+        &rt,
+        Item::Flow(Down, Fc { vc: 1, ..update }),
+        Rule::F7,
+        None,
+    );
+    link.breaks(
+        &rt,
+        Item::Flow(Down, Fc { vc: 2, ..update }),
+        Rule::F11,
+        None,
+    );
+    link.pass(&rt, &[write(1, 1), Item::Flow(Down, update)]);
+    Ok(())
+}
+
+#[test]
+fn headers_beyond_the_grant_are_less_than_half_a_ring(rt: HostRuntime) -> Result<(), Fail> {
+    // a scale, the headers that one unit of it grants, and those that lie half a ring beyond
+    for (scale, enough, half) in [(1, 1, 129), (2, 4, 516), (3, 16, 2064)] {
+        let mut link = Link::new();
+        let first = scaled(scale, fc(Init1, Class::Np, 1, 0));
+        let mut items = endless();
+        items[1] = Item::Flow(Down, first);
+        items[7] = Item::Flow(
+            Down,
+            Fc {
+                stage: Init2,
+                ..first
+            },
+        );
+        link.pass(&rt, &items);
+        let read = Item::Tlp(
+            Up,
+            Cost {
+                class: Class::Np,
+                header: 1,
+                units: 0,
+            },
+        );
+        for sent in 1..=half {
+            if sent > enough && sent < half {
+                link.breaks(&rt, read, Rule::F9, Some(2));
+            } else {
+                link.pass(&rt, &[read]);
+            }
+        }
+    }
     Ok(())
 }
 
