@@ -7,6 +7,7 @@ mod configuration;
 mod digest;
 mod formation;
 mod kinds;
+mod laws;
 mod memory;
 mod messages;
 mod prefixes;
@@ -15,6 +16,7 @@ mod traffic;
 mod verdict;
 
 pub use formation::judge;
+pub use laws::seen_has_header;
 
 #[cfg(test)]
 mod tests;
