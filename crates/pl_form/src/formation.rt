@@ -4,7 +4,7 @@ ghost use Rattle.std.specs.Prelude.{◌≡◌, ◌+◌, ◌≤◌, ◌++◌, len
 ghost use Rattle.arrayvec.specs.ArrayVec.{array_vec_len};
 ghost use Rattle.pl_tlp.specs.Fields.{fields, outcome, Whole};
 ghost use Rattle.pl_tlp.specs.Fit.{Fits, FitsIfWhole};
-ghost use Rattle.pl_form.specs.Verdicts.{formation_verdicts, kind_verdicts, other_verdicts, verdict_if, whole_verdicts, HasHeaderIfWhole};
+ghost use Rattle.pl_form.specs.Verdicts.{formation_verdicts, kind_verdicts, other_verdicts, whole_verdicts, HasHeaderIfWhole};
 
 use crate::atomics::judge_atomic;
 use crate::configuration::judge_configuration;
@@ -20,42 +20,47 @@ use pl_tlp::{Kind, Tlp, View};
 
 /// The verdicts on the TLP of item `at`, which travels in direction `dir`: the formation rules that it
 /// breaks, in their order, and each cites nothing.
-#[tactic(auto, unfolding(crate::specs::Verdicts::formation_verdicts, crate::specs::Verdicts::whole_verdicts))]
+///
+/// [`add_formation`] gives the same into a list that is there already, without filling and copying one.
 pub fn judge(profile: &Profile, dir: Dir, view: &View, at: u64) -> Found
     requires fits { FitsIfWhole (outcome view.now) }
     requires header { HasHeaderIfWhole (outcome view.now) }
     ensures verdicts { result.items ≡ formation_verdicts profile.now dir (outcome view.now) at }
     ensures most { array_vec_len result ≤ 18 }
 {
+    let mut found = Found::new();
+    add_formation(profile, dir, view, at, &mut found);
+    found
+}
+
+/// Adds the verdicts on the TLP of item `at`, which travels in direction `dir`, to those that were found
+/// before: the formation rules that it breaks, in their order, and each cites nothing.
+#[tactic(auto, unfolding(crate::specs::Verdicts::formation_verdicts, crate::specs::Verdicts::whole_verdicts))]
+pub fn add_formation(profile: &Profile, dir: Dir, view: &View, at: u64, found: &mut Found)
+    requires fits { FitsIfWhole (outcome view.now) }
+    requires header { HasHeaderIfWhole (outcome view.now) }
+    requires room { array_vec_len found.old ≤ 14 }
+    ensures verdicts { found.new.items ≡ found.old.items ++ formation_verdicts profile.now dir (outcome view.now) at }
+    ensures most { array_vec_len found.new ≤ array_vec_len found.old + 18 }
+{
     match view {
-        View::Whole(tlp) => judge_whole(profile, dir, tlp, at),
-        View::Undefined => found_one(Rule::M1, at),
-        View::WrongSize => found_one(Rule::M2, at),
+        View::Whole(tlp) => judge_whole(profile, dir, tlp, at, found),
+        View::Undefined => add_if(true, Rule::M1, at, found),
+        View::WrongSize => add_if(true, Rule::M2, at, found),
     }
 }
 
-/// The verdict on a TLP that isn't whole.
-fn found_one(rule: Rule, at: u64) -> Found
-    ensures items { result.items ≡ verdict_if true rule at }
-    ensures most { array_vec_len result ≤ 1 }
-{
-    let mut found = Found::new();
-    add_if(true, rule, at, &mut found);
-    found
-}
-
-/// What a whole TLP breaks: M3 to M20.
+/// Adds what a whole TLP breaks: M3 to M20.
 #[tactic(auto, unfolding(crate::specs::Verdicts::whole_verdicts))]
-fn judge_whole(profile: &Profile, dir: Dir, tlp: &Tlp, at: u64) -> Found
+fn judge_whole(profile: &Profile, dir: Dir, tlp: &Tlp, at: u64, found: &mut Found)
     requires fits { Fits (fields tlp.now) }
     requires header { 12 ≤ length tlp.now.header.now }
-    ensures items { result.items ≡ whole_verdicts profile.now dir (Whole (fields tlp.now)) at }
-    ensures most { array_vec_len result ≤ 18 }
+    requires room { array_vec_len found.old ≤ 14 }
+    ensures items { found.new.items ≡ found.old.items ++ whole_verdicts profile.now dir (Whole (fields tlp.now)) at }
+    ensures most { array_vec_len found.new ≤ array_vec_len found.old + 18 }
 {
-    let mut found = Found::new();
-    judge_kind(profile, dir, tlp, at, &mut found);
-    judge_other(profile, dir, tlp, at, &mut found);
-    found
+    judge_kind(profile, dir, tlp, at, found);
+    judge_other(profile, dir, tlp, at, found);
 }
 
 /// Adds what a TLP breaks of M3 to M15. The rules that can't apply to its kind aren't tried.

@@ -15,7 +15,7 @@ mod table;
 mod traffic;
 mod verdict;
 
-pub use formation::judge;
+pub use formation::{add_formation, judge};
 pub use laws::seen_has_header;
 
 #[cfg(test)]
