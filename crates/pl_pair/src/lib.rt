@@ -1,8 +1,11 @@
 //! Requests and their completions: which requests are open, and what breaks C1 to C10.
 #![tactic(auto)]
 
+mod following;
+mod judging;
 mod kinds;
 mod pairs;
+mod part;
 mod request;
 mod requested;
 mod transaction;

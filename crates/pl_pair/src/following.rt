@@ -1,0 +1,42 @@
+//! What is left of an open request after one more completion.
+//! PCI Express Base Specification 5.0, chapter 2: a read may be answered in several completions.
+ghost use Rattle.std.specs.Prelude.{◌≡◌, IfSome};
+ghost use Rattle.pl_tlp.specs.Fields.{fields};
+ghost use Rattle.pl_tlp.specs.Fit.{Fits};
+ghost use Rattle.pl_pair.specs.Pairs.{IsOpen};
+ghost use Rattle.pl_pair.specs.Parts as spec;
+
+use crate::part::{brought, has_data, is_successful};
+use crate::request::OpenRequest;
+use pl_tlp::Tlp;
+
+/// What an open request is after the completion at position `at`: none where this ends it.
+pub(crate) fn after_part(opened: OpenRequest, tlp: &Tlp, at: u64) -> Option<OpenRequest>
+    requires open { IsOpen opened }
+    requires fits { Fits (fields tlp.now) }
+    ensures after { result ≡ spec.after_part opened (fields tlp.now) at }
+    ensures open { IfSome result IsOpen }
+{
+    if ends(&opened, tlp) {
+        return None;
+    }
+    Some(OpenRequest {
+        first_part: opened.first_part.or(Some(at)),
+        got: opened.got + brought(tlp),
+        ..opened
+    })
+}
+
+/// Whether a completion ends its request.
+fn ends(opened: &OpenRequest, tlp: &Tlp) -> bool
+    requires open { IsOpen opened.now }
+    requires fits { Fits (fields tlp.now) }
+    ensures { result ≡ spec.ends opened.now.request opened.now.got (fields tlp.now) }
+{
+    let wanted = opened.request.wanted();
+    !has_data(tlp)
+        || !is_successful(tlp)
+        || wanted == 0
+        || u32::from(opened.got) + u32::from(tlp.length) >= u32::from(wanted)
+        || (opened.request.is_translation() && tlp.byte_count <= 4 * tlp.length)
+}
