@@ -6,7 +6,6 @@ use Rattle.pl_base.specs.Link.{index_of}
 use Rattle.pl_index.specs.Table.{entries}
 use Rattle.pl_pair.specs.declared.request.OpenRequest.{OpenRequest}
 use Rattle.pl_pair.specs.declared.transaction.TransactionId.{TransactionId}
-use Rattle.pl_pair.specs.declared.pairs.Pairs.{Pairs}
 use Rattle.pl_pair.specs.Kinds.{needs_completion}
 use Rattle.pl_pair.specs.Requested.{wanted}
 use Rattle.pl_pair.specs.History.{Event, ids, open_request, outstanding}
@@ -30,8 +29,12 @@ pub record IsOpen (opened : OpenRequest) : Type 0 where
 abbrev pub AreOpen : FinMap nat_cmp OpenRequest → Type 0
 AreOpen kept = (key : ℕ) (opened : OpenRequest) → get kept key ≡ Some opened → IsOpen opened
 
+-- the room, and the open requests under the keys of their transaction IDs
+pub record Kept : Type 0 where
+  pub table : ℕ × FinMap nat_cmp OpenRequest
+
 -- the table has the open request of each transaction ID and no other, and counts them
-pub record StandsFor (pairs : Pairs) (past : List Event) : Type 0 where
+pub record StandsFor (pairs : Kept) (past : List Event) : Type 0 where
   pub in_range : All IsInRange (ids past)
   pub each : (id : TransactionId) → IsInRange id → get (entries pairs.table) (key_of id) ≡ open_request id past
   pub count : len (entries pairs.table) ≡ outstanding past

@@ -11,4 +11,5 @@ mod requested;
 mod transaction;
 mod verdict;
 
+pub use kinds::{is_completion, needs_completion};
 pub use pairs::Pairs;

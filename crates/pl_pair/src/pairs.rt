@@ -1,10 +1,168 @@
-//! The open requests of both directions.
+//! The open requests of both directions, and what breaks C1 to C10.
+//! PCI Express Base Specification 5.0, chapter 2: transaction ordering and completion rules.
+ghost use Rattle.std.specs.Prelude.{◌≡◌, ◌<◌, ◌≤◌, ◌↔◌, List, [], ◌∷◌, None, IfOk, IsTrue, true};
+ghost use Rattle.std.specs.FinMap as map;
+ghost use Rattle.arrayvec.specs.ArrayVec.{array_vec_len};
+ghost use Rattle.pl_tlp.specs.Fields.{fields};
+ghost use Rattle.pl_tlp.specs.Fit.{Fits};
+ghost use Rattle.pl_index.specs.Table.{entries, limit, LacksRoomFor};
+ghost use Rattle.pl_profile.specs.declared.profile.Profile.{Profile};
+ghost use Rattle.pl_pair.specs.Kinds as kinds;
+ghost use Rattle.pl_pair.specs.History.{Completion, Event, Request, open_request, outstanding, request_id};
+ghost use Rattle.pl_pair.specs.Pairs.{StandsFor, key_of};
+ghost use Rattle.pl_pair.specs.Rules.{pair_verdicts};
 
+use crate::following::after_part;
+use crate::judging::{boundary_of, judge_part};
+use crate::kinds::needs_completion;
 use crate::request::OpenRequest;
+use crate::requested::request_of;
+use crate::transaction::TransactionId;
+use crate::verdict::add_if;
+use pl_base::{Dir, Found, Rule};
 use pl_index::Table;
+use pl_profile::Profile;
+use pl_tlp::Tlp;
+use std::alloc::{AllocError, Global};
+use std::marker::Model;
 
 /// The open requests of both directions since the link came up.
+///
+/// Pairs keep no history: of each open request they keep what its completions are held against, how much of its data
+/// came, and which items verdicts cite. A request is forgotten as soon as a completion ends it.
 #[derive(Drop)]
 pub struct Pairs {
     table: Table<OpenRequest>,
+    room: u32,
+}
+
+impl Model for Pairs {
+    ghost use Rattle.std.specs.Prelude.{◌≡◌, ℕ, refl};
+    ghost use Rattle.std.specs.Coded.{code_by, coded×, coded_ℕ};
+    ghost use Rattle.std.specs.FinMap as map;
+    ghost use Rattle.std.specs.Ordering.{nat_cmp};
+    ghost use Rattle.pl_index.specs.Table.{entries, limit};
+    ghost use Rattle.pl_pair.specs.contracts.request.OpenRequest as requests;
+    ghost use Rattle.pl_pair.specs.declared.request.OpenRequest.{OpenRequest};
+    ghost use Rattle.pl_pair.specs.Pairs.{AreOpen, Kept};
+
+    ghost Value = { Kept };
+
+    ghost coded = { code_by (ℕ × map.FinMap nat_cmp OpenRequest) (coded× coded_ℕ (map.code coded_ℕ requests.the_row.coded)) (λ kept. kept.table) (λ table. record { table = table }) (λ _. refl) };
+
+    ghost view = { λ p. record { table = p.table } };
+
+    ghost invariant = { λ p. (limit p.table ≡ p.room) × AreOpen (entries p.table) };
+}
+
+impl Pairs {
+    /// The pairs of an empty span, with memory for `room` open requests, 1 to 262,144. No other call takes memory.
+    ///
+    /// # Errors
+    ///
+    /// Where this memory is wanting.
+    pub fn open(alloc: Global, room: u32) -> Result<Pairs, AllocError>
+        requires some { 1 ≤ room }
+        requires few { room ≤ 262144 }
+        ensures stands { IfOk result (λ pairs. StandsFor pairs []) }
+        ensures room { IfOk result (λ pairs. limit pairs.table ≡ room) }
+    {
+        let table = Table::open(alloc, room)?;
+        Ok(Pairs { table, room })
+    }
+
+    /// Begins a new span, as after a link down.
+    pub fn reset(&mut self)
+        ensures stands { StandsFor self.new [] }
+        ensures room { limit self.new.table ≡ limit self.old.table }
+    {
+        self.table.clear();
+    }
+
+    /// How many requests are open.
+    pub fn outstanding(&self) -> u32
+        ensures now { result ≡ map.len (entries self.now.table) }
+        ensures past { (past : List Event) → StandsFor self.now past → result ≡ outstanding past }
+        ensures within { result ≤ limit self.now.table }
+    {
+        self.table.len()
+    }
+
+    /// Whether there is no room for this TLP: a request that needs a completion and would be open beside as many others
+    /// as there is room for. A request whose transaction ID is in use takes the place of the open one.
+    ///
+    /// The Tag is below 256.
+    pub fn full_for(&self, dir: Dir, tlp: &Tlp) -> bool
+        requires { tlp.now.tag < 256 }
+        ensures now { IsTrue result ↔ ((kinds.needs_completion tlp.now.kind ≡ true) × LacksRoomFor self.now.table (key_of (request_id dir (fields tlp.now)))) }
+        ensures past { (past : List Event) → StandsFor self.now past → (IsTrue result ↔
+            ((kinds.needs_completion tlp.now.kind ≡ true)
+            × (open_request (request_id dir (fields tlp.now)) past ≡ None)
+            × (outstanding past ≡ limit self.now.table))) }
+    {
+        if !needs_completion(tlp.kind) || self.table.len() < self.room {
+            return false;
+        }
+        let id = TransactionId::of_request(dir, tlp);
+        self.table.get(id.key()).is_none()
+    }
+
+    /// A request that needs a completion travels in direction `dir`, at position `at`: whether it breaks C2. It takes
+    /// the place of an open request with its transaction ID. From then on the pairs stand for the history with it.
+    ///
+    /// The Tag is below 256, and there is room: see `full_for`.
+    #[tactic(auto, unfolding(crate::specs::Rules::pair_verdicts))]
+    pub fn request(&mut self, dir: Dir, tlp: &Tlp, at: u64) -> Found
+        requires needs { kinds.needs_completion tlp.now.kind ≡ true }
+        requires tag { tlp.now.tag < 256 }
+        requires fits { Fits (fields tlp.now) }
+        requires room { LacksRoomFor self.old.table (key_of (request_id dir (fields tlp.now))) → ⊥ }
+        ensures verdicts { (past : List Event) (profile : Profile) → StandsFor self.old past → result.items ≡ pair_verdicts profile past (Request dir (fields tlp.now) at) }
+        ensures stands { (past : List Event) → StandsFor self.old past → StandsFor self.new (Request dir (fields tlp.now) at ∷ past) }
+        ensures few { array_vec_len result ≤ 1 }
+        ensures room { limit self.new.table ≡ limit self.old.table }
+    {
+        let mut found = Found::new();
+        let id = TransactionId::of_request(dir, tlp);
+        let opened = OpenRequest {
+            request: request_of(tlp),
+            at,
+            first_part: None,
+            got: 0,
+        };
+        if let Ok(Some(before)) = self.table.put(id.key(), opened) {
+            add_if(&mut found, true, Rule::C2, at, Some(before.at), None);
+        }
+        found
+    }
+
+    /// A completion travels in direction `dir`, at position `at`: what it breaks of C3 to C10, or C1 alone where it
+    /// names no open request. From then on the pairs stand for the history with it.
+    ///
+    /// The Tag is below 256.
+    #[tactic(auto, unfolding(crate::specs::Rules::pair_verdicts))]
+    pub fn completion(&mut self, profile: &Profile, dir: Dir, tlp: &Tlp, at: u64) -> Found
+        requires is { kinds.is_completion tlp.now.kind ≡ true }
+        requires tag { tlp.now.tag < 256 }
+        requires fits { Fits (fields tlp.now) }
+        ensures verdicts { (past : List Event) → StandsFor self.old past → result.items ≡ pair_verdicts profile.now past (Completion dir (fields tlp.now) at) }
+        ensures stands { (past : List Event) → StandsFor self.old past → StandsFor self.new (Completion dir (fields tlp.now) at ∷ past) }
+        ensures few { array_vec_len result ≤ 8 }
+        ensures room { limit self.new.table ≡ limit self.old.table }
+    {
+        let mut found = Found::new();
+        let key = TransactionId::answered(dir, tlp).key();
+        let Some(opened) = self.table.get(key) else {
+            add_if(&mut found, true, Rule::C1, at, None, None);
+            return found;
+        };
+        judge_part(&mut found, boundary_of(profile, dir), &opened, tlp, at);
+        match after_part(opened, tlp, at) {
+            Some(opened) => self.table.set(key, opened),
+            None => {
+                self.table.take(key);
+            }
+        }
+        found
+    }
 }

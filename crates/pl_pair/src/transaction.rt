@@ -1,7 +1,12 @@
 //! Transaction IDs.
 //! PCI Express Base Specification 5.0, chapter 2: transaction descriptor, transaction ID field.
+ghost use Rattle.std.specs.Prelude.{◌≡◌, ◌<◌};
+ghost use Rattle.pl_tlp.specs.Fields.{fields};
+ghost use Rattle.pl_pair.specs.History.{answered_id, request_id};
+ghost use Rattle.pl_pair.specs.Pairs.{IsInRange, key_of};
 
 use pl_base::Dir;
+use pl_tlp::Tlp;
 
 /// The direction of a request, its Requester ID and its Tag.
 #[derive(Clone, Copy, Debug, PartialEq, Eq)]
@@ -9,4 +14,42 @@ pub struct TransactionId {
     pub direction: Dir,
     pub requester: u16,
     pub tag: u16,
+}
+
+impl TransactionId {
+    /// The transaction ID of a request that travels in direction `dir`.
+    pub(crate) fn of_request(dir: Dir, tlp: &Tlp) -> TransactionId
+        requires { tlp.now.tag < 256 }
+        ensures id { result ≡ request_id dir (fields tlp.now) }
+        ensures range { IsInRange result }
+    {
+        TransactionId {
+            direction: dir,
+            requester: tlp.requester,
+            tag: tlp.tag,
+        }
+    }
+
+    /// The transaction ID of the request that a completion names which travels in direction `dir`.
+    pub(crate) fn answered(dir: Dir, tlp: &Tlp) -> TransactionId
+        requires { tlp.now.tag < 256 }
+        ensures id { result ≡ answered_id dir (fields tlp.now) }
+        ensures range { IsInRange result }
+    {
+        TransactionId {
+            direction: dir.opposite(),
+            requester: tlp.requester,
+            tag: tlp.tag,
+        }
+    }
+
+    /// Its key in a table: the direction, the Requester ID and the Tag beside each other.
+    pub(crate) fn key(self) -> u32
+        requires { IsInRange self }
+        ensures { result ≡ key_of self }
+    {
+        ((self.direction.index() as u32) << 24)
+            + (u32::from(self.requester) << 8)
+            + u32::from(self.tag)
+    }
 }

@@ -1,0 +1,4 @@
+pub mod Ids
+pub mod Histories
+pub mod Counts
+pub mod Steps
