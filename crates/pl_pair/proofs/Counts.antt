@@ -10,16 +10,12 @@ use Rattle.pl_pair.specs.declared.transaction.TransactionId.{TransactionId}
 use Rattle.pl_pair.specs.Parts as transaction
 use Rattle.pl_pair.specs.Parts.{Answered, Latest, latest, open_in}
 use Rattle.pl_pair.specs.History.{Event, Request, Completion, answered_id, ids, is_among, is_same, open_request, outstanding, request_id, seen}
+use Rattle.pl_pair.specs.Laws.{AreDistinct}
 use Rattle.pl_pair.proofs.Ids.{is_same-sym, same_id}
 use Rattle.pl_pair.proofs.Histories.{after, open-completion, open-request, seen-other_completion, seen-other_request}
 
 abbrev pub weight : Bool → ℕ
 weight passes = cond passes 1 0
-
--- each stands once
-abbrev pub Once : List TransactionId → Type 0
-Once [] = Unit {0}
-Once (id ∷ ids) = (is_among id ids ≡ false) × Once ids
 
 count-cons : (f : TransactionId → Bool) (id : TransactionId) (xs : List TransactionId) → count_by f (id ∷ xs) ≡ weight (f id) + count_by f xs
 count-cons f id xs = sum_by-cons (λ (x : TransactionId). weight (f x)) id xs
@@ -35,7 +31,7 @@ module _ (f g : TransactionId → Bool) (t : TransactionId) (agree : (id : Trans
       count-cons g x xs ∙ (rw (agree x differs, count-without xs rest) refl) ∙ sym (count-cons f x xs)
 
   -- .. and else by their answers at this one
-  pub count-with : (xs : List TransactionId) → Once xs → is_among t xs ≡ true → count_by g xs + weight (f t) ≡ count_by f xs + weight (g t)
+  pub count-with : (xs : List TransactionId) → AreDistinct xs → is_among t xs ≡ true → count_by g xs + weight (f t) ≡ count_by f xs + weight (g t)
   count-with [] once there = cc
   count-with (x ∷ xs) once there =
       elim (is_same t x) as (λ same. is_same t x ≡ same → count_by g (x ∷ xs) + weight (f t) ≡ count_by f (x ∷ xs) + weight (g t)) [
@@ -50,11 +46,11 @@ module _ (f g : TransactionId → Bool) (t : TransactionId) (agree : (id : Trans
             omega (arith, count-cons f x xs, count-cons g x xs, heads, count-with xs once.1 rest)
       ] refl
 
-ids-add : (id : TransactionId) (xs : List TransactionId) → Once xs → (among : Bool) → is_among id xs ≡ among → Once (cond among xs (id ∷ xs))
+ids-add : (id : TransactionId) (xs : List TransactionId) → AreDistinct xs → (among : Bool) → is_among id xs ≡ among → AreDistinct (cond among xs (id ∷ xs))
 ids-add id xs once true e = once
 ids-add id xs once false e = (e, once)
 
-pub ids-once : (past : List Event) → Once (ids past)
+pub ids-once : (past : List Event) → AreDistinct (ids past)
 ids-once [] = tt
 ids-once (Request direction x at ∷ past) = ids-add (request_id direction x) (ids past) (ids-once past) (is_among (request_id direction x) (ids past)) refl
 ids-once (Completion direction x at ∷ past) = ids-once past
@@ -103,14 +99,14 @@ open-other_completion id direction x at past e = ap open_in (seen-other_completi
 abbrev pub is_open : List Event → TransactionId → Bool
 is_open past id = is_some (open_request id past)
 
-outstanding-added : (f g : TransactionId → Bool) (t : TransactionId) (xs : List TransactionId) → ((id : TransactionId) → is_same id t ≡ false → f id ≡ g id) → Once xs
+outstanding-added : (f g : TransactionId → Bool) (t : TransactionId) (xs : List TransactionId) → ((id : TransactionId) → is_same id t ≡ false → f id ≡ g id) → AreDistinct xs
     → (is_among t xs ≡ false → f t ≡ false) → (among : Bool) → is_among t xs ≡ among → count_by g (cond among xs (t ∷ xs)) + weight (f t) ≡ count_by f xs + weight (g t)
 outstanding-added f g t xs agree once closed true e = count-with f g t agree xs once e
 outstanding-added f g t xs agree once closed false e =
     let none : weight (f t) ≡ 0 = ap weight (closed e) in
     omega (arith, count-cons g t xs, count-without f g t agree xs e, none)
 
-outstanding-same : (f g : TransactionId → Bool) (t : TransactionId) (xs : List TransactionId) → ((id : TransactionId) → is_same id t ≡ false → f id ≡ g id) → Once xs
+outstanding-same : (f g : TransactionId → Bool) (t : TransactionId) (xs : List TransactionId) → ((id : TransactionId) → is_same id t ≡ false → f id ≡ g id) → AreDistinct xs
     → (is_among t xs ≡ false → f t ≡ false) → (is_among t xs ≡ false → g t ≡ false) → (among : Bool) → is_among t xs ≡ among → count_by g xs + weight (f t) ≡ count_by f xs + weight (g t)
 outstanding-same f g t xs agree once closed still true e = count-with f g t agree xs once e
 outstanding-same f g t xs agree once closed still false e =

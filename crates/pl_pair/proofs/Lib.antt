@@ -2,3 +2,4 @@ pub mod Ids
 pub mod Histories
 pub mod Counts
 pub mod Steps
+pub mod Terms

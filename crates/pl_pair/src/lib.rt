@@ -4,6 +4,7 @@
 mod following;
 mod judging;
 mod kinds;
+pub mod laws;
 mod pairs;
 mod part;
 mod request;
