@@ -167,8 +167,11 @@ fn ends_amiss(boundary: u8, opened: &OpenRequest, tlp: &Tlp) -> bool
     ensures { result ≡ spec.breaks_C9 boundary opened.now.request opened.now.got (fields tlp.now) }
 {
     let reached = reached(opened, tlp);
+    if reached >= u32::from(opened.request.wanted()) {
+        return false;
+    }
     let start = (opened.request.address % 128) as u32;
-    reached < u32::from(opened.request.wanted()) && (start + 4 * reached) % u32::from(boundary) != 0
+    (start + 4 * reached) % u32::from(boundary) != 0
 }
 
 /// Adds what it breaks of C6 and C7, where its request accesses IO or configuration space.
