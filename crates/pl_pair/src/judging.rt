@@ -34,12 +34,12 @@ pub(crate) fn boundary_of(profile: &Profile, dir: Dir) -> u8
 /// its direction.
 #[tactic(auto, unfolding(crate::specs::Rules::part_verdicts, crate::specs::Judging::counted_verdicts))]
 pub(crate) fn judge_part(found: &mut Found, boundary: u8, opened: &OpenRequest, tlp: &Tlp, at: u64)
-    requires none { found.old.items ≡ [] }
+    requires room { array_vec_len found.old ≤ 22 }
     requires boundary { IsTrue (is_completion_boundary boundary) }
     requires waits { IsOpen opened.now }
     requires fits { Fits (fields tlp.now) }
-    ensures verdicts { found.new.items ≡ spec.part_verdicts boundary opened.now (fields tlp.now) at }
-    ensures few { array_vec_len found.new ≤ 8 }
+    ensures verdicts { found.new.items ≡ found.old.items ++ spec.part_verdicts boundary opened.now (fields tlp.now) at }
+    ensures few { array_vec_len found.new ≤ array_vec_len found.old + 8 }
 {
     let request = &opened.request;
     hold(found, breaks_c3(request, tlp), Rule::C3, opened, at);
@@ -101,7 +101,7 @@ fn reached(opened: &OpenRequest, tlp: &Tlp) -> u32
 fn judge_counts(found: &mut Found, boundary: u8, opened: &OpenRequest, tlp: &Tlp, at: u64)
     requires boundary { IsTrue (is_completion_boundary boundary) }
     requires fits { Fits (fields tlp.now) }
-    requires room { array_vec_len found.old ≤ 20 }
+    requires room { array_vec_len found.old ≤ 28 }
     ensures items { found.new.items ≡ found.old.items ++ counted_verdicts boundary opened.now (fields tlp.now) at }
     ensures most { array_vec_len found.new ≤ array_vec_len found.old + 3 }
 {
@@ -137,7 +137,7 @@ fn judge_read(found: &mut Found, boundary: u8, opened: &OpenRequest, tlp: &Tlp, 
     requires not_atomic { kinds.is_atomic opened.now.request.kind ≡ false }
     requires boundary { IsTrue (is_completion_boundary boundary) }
     requires fits { Fits (fields tlp.now) }
-    requires room { array_vec_len found.old ≤ 20 }
+    requires room { array_vec_len found.old ≤ 28 }
     ensures items { found.new.items ≡ found.old.items ++ counted_verdicts boundary opened.now (fields tlp.now) at }
     ensures most { array_vec_len found.new ≤ array_vec_len found.old + 3 }
 {
@@ -181,7 +181,7 @@ fn judge_access(found: &mut Found, boundary: u8, opened: &OpenRequest, tlp: &Tlp
     requires access { kinds.is_io_or_configuration opened.now.request.kind ≡ true }
     requires not_read { kinds.is_memory_read opened.now.request.kind ≡ false }
     requires not_atomic { kinds.is_atomic opened.now.request.kind ≡ false }
-    requires room { array_vec_len found.old ≤ 20 }
+    requires room { array_vec_len found.old ≤ 28 }
     ensures items { found.new.items ≡ found.old.items ++ counted_verdicts boundary opened.now (fields tlp.now) at }
     ensures most { array_vec_len found.new ≤ array_vec_len found.old + 3 }
 {
@@ -196,7 +196,7 @@ fn judge_atomic(found: &mut Found, boundary: u8, opened: &OpenRequest, tlp: &Tlp
     requires atomic { kinds.is_atomic opened.now.request.kind ≡ true }
     requires not_read { kinds.is_memory_read opened.now.request.kind ≡ false }
     requires not_access { kinds.is_io_or_configuration opened.now.request.kind ≡ false }
-    requires room { array_vec_len found.old ≤ 20 }
+    requires room { array_vec_len found.old ≤ 28 }
     ensures items { found.new.items ≡ found.old.items ++ counted_verdicts boundary opened.now (fields tlp.now) at }
     ensures most { array_vec_len found.new ≤ array_vec_len found.old + 3 }
 {

@@ -1,6 +1,6 @@
 //! The open requests of both directions, and what breaks C1 to C10.
 //! PCI Express Base Specification 5.0, chapter 2: transaction ordering and completion rules.
-ghost use Rattle.std.specs.Prelude.{◌≡◌, ◌<◌, ◌≤◌, ◌↔◌, List, [], ◌∷◌, None, IfOk, IsTrue, true};
+ghost use Rattle.std.specs.Prelude.{◌≡◌, ◌+◌, ◌<◌, ◌≤◌, ◌↔◌, List, [], ◌∷◌, ◌++◌, None, IfOk, IsTrue, true};
 ghost use Rattle.std.specs.FinMap as map;
 ghost use Rattle.arrayvec.specs.ArrayVec.{array_vec_len};
 ghost use Rattle.pl_tlp.specs.Fields.{fields};
@@ -111,7 +111,6 @@ impl Pairs {
     /// the place of an open request with its transaction ID. From then on the pairs stand for the history with it.
     ///
     /// The Tag is below 256, and there is room: see `full_for`.
-    #[tactic(auto, unfolding(crate::specs::Rules::pair_verdicts))]
     pub fn request(&mut self, dir: Dir, tlp: &Tlp, at: u64) -> Found
         requires needs { kinds.needs_completion tlp.now.kind ≡ true }
         requires tag { tlp.now.tag < 256 }
@@ -123,6 +122,23 @@ impl Pairs {
         ensures room { limit self.new.table ≡ limit self.old.table }
     {
         let mut found = Found::new();
+        self.request_into(dir, tlp, at, &mut found);
+        found
+    }
+
+    /// As [`Pairs::request`], with the verdict behind those that were found before, at most 31.
+    #[tactic(auto, unfolding(crate::specs::Rules::pair_verdicts))]
+    pub fn request_into(&mut self, dir: Dir, tlp: &Tlp, at: u64, found: &mut Found)
+        requires needs { kinds.needs_completion tlp.now.kind ≡ true }
+        requires tag { tlp.now.tag < 256 }
+        requires fits { Fits (fields tlp.now) }
+        requires room { LacksRoomFor self.old.table (key_of (request_id dir (fields tlp.now))) → ⊥ }
+        requires few { array_vec_len found.old ≤ 31 }
+        ensures verdicts { (past : List Event) (profile : Profile) → StandsFor self.old past → found.new.items ≡ found.old.items ++ pair_verdicts profile past (Request dir (fields tlp.now) at) }
+        ensures stands { (past : List Event) → StandsFor self.old past → StandsFor self.new (Request dir (fields tlp.now) at ∷ past) }
+        ensures few { array_vec_len found.new ≤ array_vec_len found.old + 1 }
+        ensures room { limit self.new.table ≡ limit self.old.table }
+    {
         let id = TransactionId::of_request(dir, tlp);
         let opened = OpenRequest {
             request: request_of(tlp),
@@ -131,16 +147,14 @@ impl Pairs {
             got: 0,
         };
         if let Ok(Some(before)) = self.table.put(id.key(), opened) {
-            add_if(&mut found, true, Rule::C2, at, Some(before.at), None);
+            add_if(found, true, Rule::C2, at, Some(before.at), None);
         }
-        found
     }
 
     /// A completion travels in direction `dir`, at position `at`: what it breaks of C3 to C10, or C1 alone where it
     /// names no open request. From then on the pairs stand for the history with it.
     ///
     /// The Tag is below 256.
-    #[tactic(auto, unfolding(crate::specs::Rules::pair_verdicts))]
     pub fn completion(&mut self, profile: &Profile, dir: Dir, tlp: &Tlp, at: u64) -> Found
         requires is { kinds.is_completion tlp.now.kind ≡ true }
         requires tag { tlp.now.tag < 256 }
@@ -151,18 +165,40 @@ impl Pairs {
         ensures room { limit self.new.table ≡ limit self.old.table }
     {
         let mut found = Found::new();
+        self.completion_into(profile, dir, tlp, at, &mut found);
+        found
+    }
+
+    /// As [`Pairs::completion`], with the verdicts behind those that were found before, at most 22.
+    #[tactic(auto, unfolding(crate::specs::Rules::pair_verdicts))]
+    pub fn completion_into(
+        &mut self,
+        profile: &Profile,
+        dir: Dir,
+        tlp: &Tlp,
+        at: u64,
+        found: &mut Found,
+    )
+        requires is { kinds.is_completion tlp.now.kind ≡ true }
+        requires tag { tlp.now.tag < 256 }
+        requires fits { Fits (fields tlp.now) }
+        requires few { array_vec_len found.old ≤ 22 }
+        ensures verdicts { (past : List Event) → StandsFor self.old past → found.new.items ≡ found.old.items ++ pair_verdicts profile.now past (Completion dir (fields tlp.now) at) }
+        ensures stands { (past : List Event) → StandsFor self.old past → StandsFor self.new (Completion dir (fields tlp.now) at ∷ past) }
+        ensures few { array_vec_len found.new ≤ array_vec_len found.old + 8 }
+        ensures room { limit self.new.table ≡ limit self.old.table }
+    {
         let key = TransactionId::answered(dir, tlp).key();
         let Some(opened) = self.table.get(key) else {
-            add_if(&mut found, true, Rule::C1, at, None, None);
-            return found;
+            add_if(found, true, Rule::C1, at, None, None);
+            return;
         };
-        judge_part(&mut found, boundary_of(profile, dir), &opened, tlp, at);
+        judge_part(found, boundary_of(profile, dir), &opened, tlp, at);
         match after_part(opened, tlp, at) {
             Some(opened) => self.table.set(key, opened),
             None => {
                 self.table.take(key);
             }
         }
-        found
     }
 }

@@ -5,7 +5,7 @@ use Rattle.pl_pair.specs.declared.request.OpenRequest.{OpenRequest}
 use Rattle.pl_pair.specs.History.{request_id}
 use Rattle.pl_pair.specs.Pairs.{IsInRange, IsOpen, Kept, StandsFor, key_of}
 use Rattle.pl_pair.proofs.Steps.{is-some, open-step, opened-is, opened_by, put-request, stands-request, step-put}
-use Rattle.pl_pair.proofs.pairs.Pairs.request.Goals as goal
+use Rattle.pl_pair.proofs.pairs.Pairs.request_into.Goals as goal
 
 pub invariant_of-self : goal.invariant_of-self
 invariant_of-self c =
