@@ -1,5 +1,5 @@
 -- Where the profile of a command comes from.
-use Rattle.std.specs.Prelude.{◌≡◌, ◌≢◌, ℕ, ◌+◌, ◌⊎◌, List, length, codes, Option, Some, IsSome, Result, Ok, Err, bytes_eq, if◌then◌else◌, Bool, false}
+use Rattle.std.specs.Prelude.{◌≡◌, ◌≢◌, ℕ, ◌+◌, ◌⊎◌, List, [], ◌++◌, length, codes, Option, Some, IsSome, Result, Ok, Err, bytes_eq, if◌then◌else◌, Bool, true, false}
 use Rattle.std.specs.Option.{option_map}
 use Rattle.pl_io.specs.Faults.{Rose}
 use Rattle.pl_io.specs.Told.{plus, ahead, AtEnd, Partly}
@@ -69,3 +69,25 @@ abbrev pub IfUnreadable : {T : Type 0} → Result T NoProfile → Type 0 → Typ
 IfUnreadable (Ok profile) P = Unit {0}
 IfUnreadable (Err (Refused error)) P = Unit {0}
 IfUnreadable (Err Unreadable) P = P
+
+-- what holds unless the profile couldn't be opened or read
+abbrev pub IfReadable : {T : Type 0} → Result T NoProfile → Type 0 → Type 0
+IfReadable (Ok profile) P = P
+IfReadable (Err (Refused error)) P = P
+IfReadable (Err Unreadable) P = Unit {0}
+
+-- A front of the file was read, and this rest of it is left: not the whole, as just after the opening, unless it is empty.
+pub record IsBegun (file rest : Option (List ℕ)) : Type 0 where
+  pub read : List ℕ
+  pub left : List ℕ
+  pub file_is : file ≡ Some (read ++ left)
+  pub rest_is : rest ≡ Some left
+  pub begun : read ≡ [] → left ≡ []
+
+-- Nothing but the profile was opened and read. Where a dash names it, the shelf is as it was. Where a file does, a file
+-- stands open; where the shelf tells its files, that is the profile's, of which a front was read.
+pub record OnlyProfileRead {S : Type 0} (before now : S) (told : Bool) (files : List ℕ → Option (List ℕ)) (name : List ℕ)
+    (opened : Bool) (rest : Option (List ℕ)) : Type 0 where
+  pub dash : bytes_eq name (codes "-") ≡ true → now ≡ before
+  pub file : bytes_eq name (codes "-") ≡ false → opened ≡ true
+  pub only : bytes_eq name (codes "-") ≡ false → told ≡ true → IsBegun (files name) rest

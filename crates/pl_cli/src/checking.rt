@@ -8,7 +8,7 @@ ghost use Rattle.pl_profile.specs.declared.profile.Profile as named;
 ghost use Rattle.pl_report.specs.Lines.{profile_error_text, read_fault_text};
 ghost use Rattle.pl_cli.specs.Output.{output, status_of};
 ghost use Rattle.pl_cli.specs.Words.{Gives, GivesCut, GivesPartOfCut, NoFault};
-ghost use Rattle.pl_cli.specs.Source.{ProfileUnread, RefusesProfile, TextAndStatus, profile_under};
+ghost use Rattle.pl_cli.specs.Source.{OnlyProfileRead, ProfileUnread, RefusesProfile, TextAndStatus, profile_under};
 
 use crate::closing::write_last;
 use crate::profile::{NoProfile, profile_named};
@@ -71,8 +71,11 @@ pub fn check<H: Shelf, O: Sink>(
         × ((ProfileUnread (H.file shelf.old) profile.now (H.is_open shelf.new) (H.rest shelf.new) × Partly (O.written out.old) (O.written out.new) read_fault_text)
         ⊎ GivesPartOfCut p b (H.is_open shelf.new) (H.rest shelf.new) (O.written out.old) (O.written out.new))) }
 
-    // Want of memory writes nothing. Each other answer that isn't the output has its cause.
+    // Want of memory comes before the capture is opened and writes nothing.
+    ensures unopened { result ≡ 9 → OnlyProfileRead shelf.old shelf.new (H.told shelf.old) (H.file shelf.old) profile.now (H.is_open shelf.new) (H.rest shelf.new) }
     ensures no_memory { result ≡ 9 → O.written out.new ≡ O.written out.old }
+
+    // Each other answer that isn't the output has its cause.
     ensures read_fault { result ≡ 7 → Rose (H.faults shelf.old) (H.faults shelf.new) }
     ensures write_fault { result ≡ 8 → Rose (O.faults out.old) (O.faults out.new) }
     ensures shelf_kept { result ≢ 7 → result ≢ 8 → H.faults shelf.new ≡ H.faults shelf.old }
@@ -109,6 +112,7 @@ fn check_under<H: Shelf, O: Sink>(
         Partly (O.written out.old) (O.written out.new) (output profile b)
         ⊎ (Rose (H.faults shelf.old) (H.faults shelf.new)
         × GivesPartOfCut profile b (H.is_open shelf.new) (H.rest shelf.new) (O.written out.old) (O.written out.new)) }
+    ensures unopened { result ≡ 9 → shelf.new ≡ shelf.old }
     ensures no_memory { result ≡ 9 → O.written out.new ≡ O.written out.old }
     ensures read_fault { result ≡ 7 → Rose (H.faults shelf.old) (H.faults shelf.new) }
     ensures write_fault { result ≡ 8 → Rose (O.faults out.old) (O.faults out.new) }

@@ -7,7 +7,7 @@ ghost use Rattle.pl_profile.specs.declared.error.ProfileError as declared;
 ghost use Rattle.pl_profile.specs.declared.profile.Profile as named;
 ghost use Rattle.pl_report.specs.Lines.{profile_error_text, read_fault_text, usage_text};
 ghost use Rattle.pl_cli.specs.Output.{output, status_of};
-ghost use Rattle.pl_cli.specs.Source.{ProfileUnread, TextAndStatus, profile_under};
+ghost use Rattle.pl_cli.specs.Source.{OnlyProfileRead, ProfileUnread, TextAndStatus, profile_under};
 ghost use Rattle.pl_cli.specs.Words.{Checks, Gives, GivesCut, GivesPartOfCut, IsCheck, IsNoCommand, IsUnrisen, NoFault, RunsCleanly};
 
 use crate::checking::check;
@@ -62,7 +62,9 @@ pub fn run<H: Shelf, O: Sink>(alloc: Global, words: &[&str], shelf: &mut H, out:
     ensures shelf_kept { result ≢ 7 → result ≢ 8 → H.faults shelf.new ≡ H.faults shelf.old }
     ensures sink_kept { result ≢ 8 → O.faults out.new ≡ O.faults out.old }
 
-    // 4. Want of memory writes nothing.
+    // 4. Want of memory comes before the capture is opened and writes nothing.
+    ensures unopened { result ≡ 9 → (profile : List ℕ) × (capture : List ℕ) × IsCheck (map (λ w. w.now) words.now) profile capture
+        × OnlyProfileRead shelf.old shelf.new (H.told shelf.old) (H.file shelf.old) profile (H.is_open shelf.new) (H.rest shelf.new) }
     ensures no_memory { result ≡ 9 → O.written out.new ≡ O.written out.old }
 
     // 5. Where no count rose and memory was there, the whole output was written.

@@ -2,7 +2,7 @@
 ghost use Rattle.std.specs.Prelude.{◌≡◌, ◌⊎◌, List, ℕ, Some, true, IsSome, IfErr, IfOk, OnOk};
 ghost use Rattle.pl_io.specs.Told.{ahead};
 ghost use Rattle.pl_profile.specs.ProfileOf.{profile_of};
-ghost use Rattle.pl_cli.specs.Source.{IfUnreadable, IsNamed, IsReadable, IsText, ProfileCause, ProfileUnread, profile_under};
+ghost use Rattle.pl_cli.specs.Source.{IfReadable, IfUnreadable, IsBegun, IsNamed, IsReadable, IsText, OnlyProfileRead, ProfileCause, ProfileUnread, profile_under};
 
 use crate::capture::read_front;
 use pl_io::Shelf;
@@ -33,6 +33,7 @@ pub(crate) fn profile_named<H: Shelf>(
     ensures never_fails { H.sure shelf.old ≡ true → IsSome (profile_under (H.file shelf.old) name.now) → IsReadable result }
     ensures still_sure { OnOk result (H.sure shelf.old ≡ true → H.sure shelf.new ≡ true) }
     ensures unread { H.told shelf.old ≡ true → IfUnreadable result (ProfileUnread (H.file shelf.old) name.now (H.is_open shelf.new) (H.rest shelf.new)) }
+    ensures only { IfReadable result (OnlyProfileRead shelf.old shelf.new (H.told shelf.old) (H.file shelf.old) name.now (H.is_open shelf.new) (H.rest shelf.new)) }
     ensures cause { ProfileCause result (H.faults shelf.old) (H.faults shelf.new) }
 {
     if name == "-" {
@@ -54,6 +55,7 @@ fn profile_in<H: Shelf>(alloc: Global, shelf: &mut H) -> Result<Profile, NoProfi
     ensures still_sure { OnOk result (H.sure shelf.old ≡ true → H.sure shelf.new ≡ true) }
     ensures opened { H.is_open shelf.new ≡ true }
     ensures unread { IfUnreadable result ((read : List ℕ) × (H.rest shelf.old ≡ ahead read (H.rest shelf.new))) }
+    ensures begun { IsSome (H.rest shelf.old) → IfReadable result (IsBegun (H.rest shelf.old) (H.rest shelf.new)) }
     ensures cause { ProfileCause result (H.faults shelf.old) (H.faults shelf.new) }
 {
     match read_text(alloc, shelf) {
@@ -84,6 +86,7 @@ fn read_text<H: Shelf>(alloc: Global, shelf: &mut H) -> Result<Vec<u8>, NoProfil
     ensures still_sure { OnOk result (H.sure shelf.old ≡ true → H.sure shelf.new ≡ true) }
     ensures opened { H.is_open shelf.new ≡ true }
     ensures unread { IfUnreadable result ((read : List ℕ) × (H.rest shelf.old ≡ ahead read (H.rest shelf.new))) }
+    ensures begun { IsSome (H.rest shelf.old) → IfReadable result (IsBegun (H.rest shelf.old) (H.rest shelf.new)) }
     ensures cause { ProfileCause result (H.faults shelf.old) (H.faults shelf.new) }
 {
     let mut text = Vec::new(alloc);
