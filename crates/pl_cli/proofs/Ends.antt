@@ -122,7 +122,7 @@ pub fault_text : {p : Profile} {k : engine.EngineKept} {w w1 : Option (List ℕ)
 fault_text read f = (so_far_text read Fault AtFault f (going (reading read).ending f.goes_on).1).0
 
 -- the sink failed at some item: a part of the output was written, for which there was no room
-pub cut_part : {p : Profile} {w w1 : Option (List ℕ)} {r : Option ℕ} (file read rest : List ℕ) → CutIn p read w w1 r → file ≡ read ++ rest → length read ≤ limit →
+pub cut_part : {p : Profile} {k : engine.EngineKept} {w w1 : Option (List ℕ)} {r : Option ℕ} (file read rest : List ℕ) → CutIn p read k w w1 r → file ≡ read ++ rest → length read ≤ limit →
     Partly w w1 (output p file) × (HasRoom r (length (output p file)) → ⊥)
 cut_part {p} {w} {w1} {r} file read rest f h le =
     let t : take limit file ≡ read ++ take (limit - length read) rest = ap (take limit) h ∙ up_to_limit read rest le in

@@ -51,9 +51,9 @@ far_refused {rest = rest} {rest1} {rest2} piece s far h size next = record {
   ends = (refl, next far.so_far);
 }
 
-pub far_cut : {p : Profile} {j : Judging} {k : engine.EngineKept} {w w1 w2 : Option (List ℕ)} {r r1 : Option ℕ} {rest rest1 rest2 : Option (List ℕ)} {taken : ℕ} (piece : List ℕ) →
+pub far_cut : {p : Profile} {j : Judging} {k k' : engine.EngineKept} {w w1 w2 : Option (List ℕ)} {r r1 : Option ℕ} {rest rest1 rest2 : Option (List ℕ)} {taken : ℕ} (piece : List ℕ) →
     (far : Far p j k w w1 r r1 rest rest1 taken) → rest1 ≡ ahead piece rest2 → taken + length piece ≤ limit →
-    (SoFar p far.read j k w w1 r r1 → CutIn p (far.read ++ piece) w w2 r) → ReadsCut p w w2 r rest rest2
+    (SoFar p far.read j k w w1 r r1 → CutIn p (far.read ++ piece) k' w w2 r) → ReadsCut p k' w w2 r rest rest2
 far_cut {rest = rest} {rest1} {rest2} piece far h size next = record {
   read = far.read ++ piece;
   size = omega (arith, length-append far.read piece, far.size, size);
@@ -102,8 +102,8 @@ taken_reads told opened whole is_open f = record {
     never : false ≡ true → ⊥
     never h = cc
 
-pub taken_cut : {p : Profile} {w w1 : Option (List ℕ)} {r : Option ℕ} {file rest rest' : Option (List ℕ)} (told : Bool) →
-    (told ≡ true → IsSome rest × (rest ≡ file)) → ReadsCut p w w1 r rest rest' → TakenCut p w w1 r told file rest'
+pub taken_cut : {p : Profile} {k : engine.EngineKept} {w w1 : Option (List ℕ)} {r : Option ℕ} {file rest rest' : Option (List ℕ)} (told : Bool) →
+    (told ≡ true → IsSome rest × (rest ≡ file)) → ReadsCut p k w w1 r rest rest' → TakenCut p k w w1 r told file rest'
 taken_cut told whole f = record { read = f.read; size = f.size; from_file = λ t. sym (whole t).1 ∙ f.rest_is; cut = f.cut }
 
 -- a file that couldn't be opened

@@ -91,12 +91,12 @@ piece_blocked {p} {j} {k} {k'} {w} {w1} {w2} {r} {r1} {r2} so_far more rest byte
     (engine_refuses so_far (so_far ++ more) a.item s f a.items (prefix (so_far ++ more))
     (judged (history_after [] (reading so_far).items) a.item a.holds f.engine_stands (counted so_far f))))
 
-pub piece_lost : {p : Profile} {j : Judging} {k : engine.EngineKept} {w w1 w2 : Option (List ℕ)} {r r1 : Option ℕ} (so_far more rest bytes : List ℕ) (new : Standing) →
+pub piece_lost : {p : Profile} {j : Judging} {k k' : engine.EngineKept} {w w1 w2 : Option (List ℕ)} {r r1 : Option ℕ} (so_far more rest bytes : List ℕ) (new : Standing) →
     (so_far ++ more) ++ rest ≡ bytes → SoFar p so_far j k w w1 r r1 → GivesItem so_far more new →
-    ((past : List Entry) (x : Entry) → new.phase ≡ Holding x → engine.StandsFor k past → j.items ≡ length past → Loses past x k w1 w2 r1) →
-    CutIn p bytes w w2 r
-piece_lost {p} {j} {k} {w} {w1} {w2} {r} {r1} so_far more rest bytes new e f a judged =
-    subst (λ (l : List ℕ). CutIn p l w w2 r) e
+    ((past : List Entry) (x : Entry) → new.phase ≡ Holding x → engine.StandsFor k past → j.items ≡ length past → Loses past x k k' w1 w2 r1) →
+    CutIn p bytes k' w w2 r
+piece_lost {p} {j} {k} {k'} {w} {w1} {w2} {r} {r1} so_far more rest bytes new e f a judged =
+    subst (λ (l : List ℕ). CutIn p l k' w w2 r) e
     (cut_before (so_far ++ more) rest
     (sink_fails so_far (so_far ++ more) a.item f a.items (prefix (so_far ++ more))
     (judged (history_after [] (reading so_far).items) a.item a.holds f.engine_stands (counted so_far f))))

@@ -8,13 +8,14 @@ use Rattle.pl_capture.specs.Entry.{Entry}
 use Rattle.pl_capture.specs.Reading.{Reading, Ending, reading, Bad}
 use Rattle.pl_profile.specs.declared.profile.Profile.{Profile}
 use Rattle.pl_engine.specs.Engine as engine
-use Rattle.pl_engine.specs.Verdicts.{blocked, history_after, number_after, refusal, verdicts_after, verdicts_at}
+use Rattle.pl_engine.specs.declared.refused.Refused.{Refused}
+use Rattle.pl_engine.specs.Verdicts.{blocked, history_after, number_after, refusal, refuse, verdicts_after, verdicts_at}
 use Rattle.pl_report.specs.Lines.{stop_text}
 use Rattle.pl_cli.specs.declared.judging.Judging.{Judging}
 use Rattle.pl_cli.specs.Output.{Cause, How, cause_of_ending, items_judged, lines, status, stop_status, text}
-use Rattle.pl_cli.specs.Progress.{verdicts_in, SoFar, RefusedIn, CutIn, Blocks, Loses}
+use Rattle.pl_cli.specs.Progress.{verdicts_in, SoFar, RefusedIn, CutIn, Blocks, Loses, LostAtItem}
 use Rattle.pl_cli.proofs.Known.{engine_known, reader_known}
-use Rattle.pl_cli.proofs.Lists.{accepted_all}
+use Rattle.pl_cli.proofs.Lists.{accepted_all, refusal-append}
 use Rattle.pl_cli.proofs.Texts.{all_judged, one_refused, one_more, text_by, status_by}
 
 -- What is known of a longer reading: the items of these bytes come first, and a refusal stays.
@@ -42,6 +43,8 @@ reader_refuses {p} {k} {w} {w1} {r} {r1} before bytes s f same bad stays =
           ∙ ap (λ (e : Ending). status_by p (reading bytes).items (cause_of_ending e how)) bad;
       engine_stands = λ more. subst (λ (xs : List Entry). engine.StandsFor k (history_after [] xs))
           (sym (ap (items_judged p) (stays more) ∙ accepted_all p [] (reading bytes).items none ∙ same)) f.engine_stands;
+      lines_are = λ more. sym (ap (λ (xs : List Entry). lines (verdicts_after p [] xs))
+          (ap (items_judged p) (stays more) ∙ accepted_all p [] (reading bytes).items none ∙ same));
     }
 
 -- the engine refuses the item that ends these bytes
@@ -64,6 +67,7 @@ engine_refuses {p} {k} {k'} {w} {w1} {w2} {r} {r1} {r2} before bytes x s f more 
       same_status = λ m how. (one m how).2 ∙ ap stop_status (sym b.stop_is);
       engine_stands = λ m. subst (λ (xs : List Entry). engine.StandsFor k' (history_after [] xs)) (sym (one m Rattle.pl_cli.specs.Output.Whole).0)
           (subst (λ (e : engine.EngineKept). engine.StandsFor e past) (sym b.same_engine) f.engine_stands);
+      lines_are = λ m. sym (ap (λ (xs : List Entry). lines (verdicts_after p [] xs)) (one m Rattle.pl_cli.specs.Output.Whole).0);
     }
 
 -- bytes behind a refusal change nothing
@@ -79,6 +83,7 @@ refused_before {p} {s} {k} bytes rest f =
       same_text = λ more how. ap (λ (x : Reading). text p x how) (group more) ∙ f.same_text (rest ++ more) how;
       same_status = λ more how. ap (λ (x : Reading). status p x how) (group more) ∙ f.same_status (rest ++ more) how;
       engine_stands = λ more. subst (λ (x : Reading). engine.StandsFor k (history_after [] (items_judged p x))) (sym (group more)) (f.engine_stands (rest ++ more));
+      lines_are = λ more. f.lines_are (rest ++ more) ∙ sym (ap (λ (x : Reading). lines (verdicts_after p [] (items_judged p x))) (group more));
     }
 
 -- room for more is room for less
@@ -97,10 +102,10 @@ part_behind w w1 w2 before here rest h part = record {
 }
 
 -- the sink fails within the lines of the item that ends these bytes
-pub sink_fails : {p : Profile} {k : engine.EngineKept} {w w1 w2 : Option (List ℕ)} {r r1 : Option ℕ} {j : Judging} (before bytes : List ℕ) (x : Entry) →
+pub sink_fails : {p : Profile} {k k' : engine.EngineKept} {w w1 w2 : Option (List ℕ)} {r r1 : Option ℕ} {j : Judging} (before bytes : List ℕ) (x : Entry) →
     SoFar p before j k w w1 r r1 → (reading bytes).items ≡ (reading before).items ++ x ∷ [] → Prefix bytes →
-    Loses (history_after [] (reading before).items) x k w1 w2 r1 → CutIn p bytes w w2 r
-sink_fails {p} {k} {w} {w1} {w2} {r} {r1} before bytes x f more prefix l =
+    Loses (history_after [] (reading before).items) x k k' w1 w2 r1 → CutIn p bytes k' w w2 r
+sink_fails {p} {k} {k'} {w} {w1} {w2} {r} {r1} before bytes x f more prefix l =
     let xs : List Entry = (reading before).items in
     let past : List Entry = history_after [] xs in
     let allowed : blocked p past x ≡ None = ap (λ (q : Profile). blocked q past x) (sym f.profile_is) ∙ l.allowed in
@@ -110,6 +115,15 @@ sink_fails {p} {k} {w} {w1} {w2} {r} {r1} before bytes x f more prefix l =
     λ m. (prefix.items m).1 ∙ ap (λ (l : List Entry). l ++ (prefix.items m).0) more ∙ append_assoc xs (x ∷ []) (prefix.items m).0 in
     let one = λ (m : List ℕ) (how : How). one_more p (reading (bytes ++ m)) how xs x (prefix.items m).0 (items m) f.accepted allowed in
     record {
+      at_item = λ m. record {
+        before = xs;
+        item = x;
+        behind = (prefix.items m).0;
+        items_are = items m;
+        none_refused = refusal-append p [] xs (x ∷ []) f.accepted ∙ ap (λ (o : Option Refused). refuse o (number_after past) None) allowed;
+        engine_stands = l.engine_stands;
+        part = subst (λ (v : Option (List ℕ)). Partly v w2 here) f.written (subst (Partly w1 w2) here_is l.part);
+      };
       part = λ m how. subst (Partly w w2) (sym (one m how).1)
           (part_behind w w1 w2 (lines (verdicts_in p before)) here (one m how).0 f.written (subst (Partly w1 w2) here_is l.part));
       no_room = λ m how room. l.no_room (subst (λ (t : List ℕ). HasRoom r1 (length t)) (sym here_is)
@@ -120,11 +134,12 @@ sink_fails {p} {k} {w} {w1} {w2} {r} {r1} before bytes x f more prefix l =
     enough : (a b c : List ℕ) → length a + length b ≤ length (a ++ (b ++ c))
     enough a b c = omega (arith, length-append a (b ++ c), length-append b c)
 
-pub cut_before : {p : Profile} {w w1 : Option (List ℕ)} {r : Option ℕ} (bytes rest : List ℕ) → CutIn p bytes w w1 r → CutIn p (bytes ++ rest) w w1 r
-cut_before {p} {w} {w1} {r} bytes rest f =
+pub cut_before : {p : Profile} {k : engine.EngineKept} {w w1 : Option (List ℕ)} {r : Option ℕ} (bytes rest : List ℕ) → CutIn p bytes k w w1 r → CutIn p (bytes ++ rest) k w w1 r
+cut_before {p} {k} {w} {w1} {r} bytes rest f =
     let group : (more : List ℕ) (how : How) → text p (reading ((bytes ++ rest) ++ more)) how ≡ text p (reading (bytes ++ (rest ++ more))) how =
     λ more how. ap (λ (l : List ℕ). text p (reading l) how) (append_assoc bytes rest more) in
     record {
+      at_item = λ more. subst (λ (l : List ℕ). LostAtItem p (reading l).items k w w1) (sym (append_assoc bytes rest more)) (f.at_item (rest ++ more));
       part = λ more how. subst (Partly w w1) (sym (group more how)) (f.part (rest ++ more) how);
       no_room = λ more how room. f.no_room (rest ++ more) how (subst (λ (t : List ℕ). HasRoom r (length t)) (group more how) room);
     }

@@ -1,5 +1,7 @@
 -- The clauses of the top call, from what was read and what the last line led to.
 use Rattle.std.proofs.Common.{◌≡◌, ◌≢◌, ◌++◌, ◌+◌, ◌≤◌, ◌⊎◌, inl, inr, List, ℕ, Bool, true, false, [], refl, ap, ◌∙◌, sym, subst, length, take, append_assoc, append-nil, length-append, arith, Option, Some, None, Result, Ok, Err, zero-add}
+use Rattle.std.proofs.lemmas.List.{take_all, take_at}
+use Rattle.pl_base.specs.declared.stop.Stop.{Stop}
 use Rattle.pl_io.specs.declared.failed.Failed.{Failed}
 use Rattle.pl_io.specs.Faults.{Rose}
 use Rattle.pl_io.specs.Told.{plus, ahead, HasRoom, Partly}
@@ -9,15 +11,16 @@ use Rattle.pl_capture.specs.Reading.{Reading, reading, Open}
 use Rattle.pl_capture.proofs.Wholes.{reading_short}
 use Rattle.pl_profile.specs.declared.profile.Profile.{Profile}
 use Rattle.pl_engine.specs.Engine as engine
-use Rattle.pl_engine.specs.Verdicts.{history_after, refusal, verdicts_after}
+use Rattle.pl_engine.specs.Verdicts.{accepted, history_after, refusal, verdicts_after}
 use Rattle.pl_cli.specs.declared.judging.Judging.{Judging}
 use Rattle.pl_cli.specs.declared.judging.Ended as declared
 use Rattle.pl_cli.specs.declared.judging.Ended.TheVariants as ended
 use Rattle.pl_cli.specs.Output.{AtFault, cause_status, cut, items_judged, last_text, limit, lines, output, status_of}
-use Rattle.pl_cli.specs.Progress.{Closed, EndsAs, ReadOf, ShelfCause, SoFar, Taken, TakenCut, is_fault, last_cause, nothing_judged, verdicts_in}
+use Rattle.pl_cli.specs.Progress.{Closed, EndsAs, LostAtEnd, LostAtItem, ReadOf, RefusedIn, ShelfCause, SoFar, Taken, TakenCut, is_fault, last_cause, nothing_judged, verdicts_in}
 use Rattle.pl_cli.specs.Source.{TextAndStatus}
 use Rattle.pl_report.specs.Lines.{read_fault_text}
 use Rattle.pl_cli.proofs.Known.{end_known}
+use Rattle.pl_cli.proofs.Lists.{accepted_all}
 use Rattle.pl_cli.proofs.Ends.{Finishes, cut_part, fault_text, finishes, rest_told}
 
 pub false_is_true : false ≡ true → ⊥
@@ -155,11 +158,81 @@ top_room {p} {e} {j} {r = r} t cl b told_is file_is fine room is8 =
     let last : List ℕ = last_text j.items j.verdicts (last_cause e j.reader) in
     cl.no_room is8 (fin.room_left (length last) (subst (HasRoom r) (ap (λ (l : List ℕ). length l) fin.text ∙ length-append fin.before last) room))
 
-pub top_lost : {p : Profile} {w w1 : Option (List ℕ)} {r : Option ℕ} {told : Bool} {file rest : Option (List ℕ)} →
-    TakenCut p w w1 r told file rest → (b : List ℕ) → told ≡ true → file ≡ Some b → Partly w w1 (output p b) × (HasRoom r (length (output p b)) → ⊥)
+pub top_lost : {p : Profile} {k : engine.EngineKept} {w w1 : Option (List ℕ)} {r : Option ℕ} {told : Bool} {file rest : Option (List ℕ)} →
+    TakenCut p k w w1 r told file rest → (b : List ℕ) → told ≡ true → file ≡ Some b → Partly w w1 (output p b) × (HasRoom r (length (output p b)) → ⊥)
 top_lost {rest = rest} t b told_is file_is =
     let q : (left : List ℕ) × (rest ≡ Some left) × (b ≡ t.read ++ left) = rest_told t.read b rest (sym file_is ∙ t.from_file told_is) in
     cut_part b t.read q.0 t.cut q.2 t.size
+
+-- the sink failed within the last line behind these bytes
+so_far_lost : {p : Profile} {j : Judging} {k : engine.EngineKept} {w w1 w2 : Option (List ℕ)} {r r1 : Option ℕ} (read last : List ℕ) →
+    SoFar p read j k w w1 r r1 → Partly w1 w2 last → LostAtEnd p (reading read).items k w w2
+so_far_lost {p} {k = k} {w = w} {w2 = w2} read last f part =
+    let all : accepted p [] (reading read).items ≡ (reading read).items = accepted_all p [] (reading read).items f.accepted in
+    record {
+      engine_stands = subst (λ (xs : List Entry). engine.StandsFor k (history_after [] xs)) (sym all) f.engine_stands;
+      last = last;
+      part = subst (λ (v : Option (List ℕ)). Partly v w2 last) (f.written ∙ ap (λ (xs : List Entry). plus w (lines (verdicts_after p [] xs))) (sym all)) part;
+    }
+
+refused_lost : {p : Profile} {k : engine.EngineKept} {w w1 w2 : Option (List ℕ)} {r r1 : Option ℕ} (read last : List ℕ) (s : Stop) →
+    RefusedIn p read s k w w1 r r1 → Partly w1 w2 last → LostAtEnd p (reading read).items k w w2
+refused_lost {p} {k} {w} {w2 = w2} read last s f part =
+    let same : reading (read ++ []) ≡ reading read = ap reading (append-nil read) in
+    record {
+      engine_stands = subst (λ (x : Reading). engine.StandsFor k (history_after [] (items_judged p x))) same (f.engine_stands []);
+      last = last;
+      part = subst (λ (v : Option (List ℕ)). Partly v w2 last)
+          (f.written ∙ ap (plus w) (f.lines_are [] ∙ ap (λ (x : Reading). lines (verdicts_after p [] (items_judged p x))) same)) part;
+    }
+
+-- what was seen past the most bytes that are judged isn't judged
+front_judged : (read extra : List ℕ) → length read ≤ limit → (extra ≡ []) ⊎ (length read ≡ limit) → take limit (read ++ extra) ≡ read
+front_judged read extra le (inl none) = ap (λ (l : List ℕ). take limit (read ++ l)) none ∙ ap (take limit) (append-nil read) ∙ take_all limit read le
+front_judged read extra le (inr all) = take_at read extra limit all
+
+-- for which items the engine stands, where the sink failed within the last line
+pub top_lost_end : {p : Profile} {j : Judging} {k : engine.EngineKept} {w w1 w2 : Option (List ℕ)} {r r1 : Option ℕ} {told opened : Bool} {file rest : Option (List ℕ)} (e : declared.Ended) (answer : ℕ) →
+    Taken p e j k w w1 r r1 told file opened rest →
+    Closed w1 w2 r1 (last_text j.items j.verdicts (last_cause e j.reader)) (cause_status j.verdicts (last_cause e j.reader)) answer →
+    told ≡ true → (b : List ℕ) → file ≡ Some b → answer ≡ 8 →
+    (read : List ℕ) × ReadOf b opened rest read × (LostAtItem p (reading (take limit read)).items k w w2 ⊎ LostAtEnd p (reading (take limit read)).items k w w2)
+top_lost_end {p} {j} {k} {w} {w1} {w2} {r} {r1} {opened = opened} {rest = rest} e answer t cl told_is b file_is is8 =
+    let both = by e t.ends in (
+      t.read ++ t.extra,
+      record {
+        from_file = λ o. sym file_is ∙ t.from_file told_is o;
+        nothing = λ o. ap (λ (l : List ℕ). l ++ t.extra) (t.nothing o).0 ∙ no_extra e (t.nothing o).1 t.ends;
+      },
+      inr (subst (λ (l : List ℕ). LostAtEnd p (reading l).items k w w2) (sym (front_judged t.read t.extra t.size both.0)) (both.1 (cl.part is8))),
+    )
+  where
+    last : declared.Ended → List ℕ
+    last x = last_text j.items j.verdicts (last_cause x j.reader)
+
+    by : (x : declared.Ended) → EndsAs p x t.read t.extra rest j k w w1 r r1 →
+        ((t.extra ≡ []) ⊎ (length t.read ≡ limit)) × (Partly w1 w2 (last x) → LostAtEnd p (reading t.read).items k w w2)
+    by ended.Whole h = (inl h.0, so_far_lost t.read (last ended.Whole) h.2)
+    by ended.Fault h = (inl h.0, so_far_lost t.read (last ended.Fault) h.1)
+    by ended.TooLong h = (inr h.0, so_far_lost t.read (last ended.TooLong) h.2)
+    by (ended.Refused s) h = (inl h.0, refused_lost t.read (last (ended.Refused s)) s h.1)
+
+    no_extra : (x : declared.Ended) → is_fault x ≡ true → EndsAs p x t.read t.extra rest j k w w1 r r1 → t.extra ≡ []
+    no_extra ended.Whole faulty h = h.0
+    no_extra ended.Fault faulty h = h.0
+    no_extra ended.TooLong faulty h = absurd (false_is_true faulty)
+    no_extra (ended.Refused s) faulty h = h.0
+
+-- or within those of an item
+pub top_lost_item : {p : Profile} {k : engine.EngineKept} {w w1 : Option (List ℕ)} {r : Option ℕ} {told opened : Bool} {file rest : Option (List ℕ)} →
+    TakenCut p k w w1 r told file rest → opened ≡ true → told ≡ true → (b : List ℕ) → file ≡ Some b →
+    (read : List ℕ) × ReadOf b opened rest read × (LostAtItem p (reading (take limit read)).items k w w1 ⊎ LostAtEnd p (reading (take limit read)).items k w w1)
+top_lost_item {p} {k} {w} {w1} t is_open told_is b file_is =
+    let front : t.read ++ [] ≡ take limit t.read = append-nil t.read ∙ sym (take_all limit t.read t.size) in (
+      t.read,
+      record { from_file = λ o. sym file_is ∙ t.from_file told_is; nothing = λ closed. absurd (false_is_true (sym closed ∙ is_open)) },
+      inl (subst (λ (l : List ℕ). LostAtItem p (reading l).items k w w1) front (t.cut.at_item [])),
+    )
 
 plus-nothing : (w : Option (List ℕ)) → w ≡ plus w []
 plus-nothing None = refl

@@ -14,11 +14,11 @@ use Rattle.pl_capture.specs.declared.step.Step.TheVariants as step
 use Rattle.pl_profile.specs.declared.profile.Profile.{Profile}
 use Rattle.pl_engine.specs.declared.refused.Refused.{Refused}
 use Rattle.pl_engine.specs.Engine as engine
-use Rattle.pl_engine.specs.Verdicts.{blocked, history_after, number_after, refusal, stop_of, verdicts_after, verdicts_at}
+use Rattle.pl_engine.specs.Verdicts.{accepted, blocked, history_after, number_after, refusal, stop_of, verdicts_after, verdicts_at}
 use Rattle.pl_cli.specs.declared.judging.Judging.{Judging}
 use Rattle.pl_cli.specs.declared.judging.Ended.{Ended}
 use Rattle.pl_cli.specs.declared.judging.Ended.TheVariants as ended
-use Rattle.pl_cli.specs.Output.{Cause, AtEnd, AtRefusal, AtLimit, AtFault, How, items_judged, limit, lines, status, stop_status, text}
+use Rattle.pl_cli.specs.Output.{Cause, AtEnd, AtRefusal, AtLimit, AtFault, How, items_judged, limit, lines, status, stop_status, text, verdicts_of}
 use Rattle.pl_report.specs.Lines.{stop_text}
 
 -- what the items of these bytes break
@@ -49,9 +49,29 @@ pub record RefusedIn (profile : Profile) (bytes : List ℕ) (s : Stop) (kept : e
   pub same_text : (more : List ℕ) (how : How) → text profile (reading (bytes ++ more)) how ≡ before ++ stop_text s
   pub same_status : (more : List ℕ) (how : How) → status profile (reading (bytes ++ more)) how ≡ stop_status s
   pub engine_stands : (more : List ℕ) → engine.StandsFor kept (history_after [] (items_judged profile (reading (bytes ++ more))))
+  pub lines_are : (more : List ℕ) → before ≡ lines (verdicts_of profile (reading (bytes ++ more)))
+
+-- The sink failed within the lines of one of these items: the engine stands for those up to this one, it included, and
+-- the lines of those before it were written.
+pub record LostAtItem (profile : Profile) (items : List Entry) (kept : engine.EngineKept) (old new : Option (List ℕ)) : Type 0 where
+  pub before : List Entry
+  pub item : Entry
+  pub behind : List Entry
+  pub items_are : items ≡ before ++ item ∷ behind
+  pub none_refused : refusal profile [] (before ++ item ∷ []) ≡ None
+  pub engine_stands : engine.StandsFor kept (item ∷ history_after [] before)
+  pub part : Partly (plus old (lines (verdicts_after profile [] before))) new (lines (verdicts_at profile (history_after [] before) item))
+
+-- The sink failed within the last line: the engine stands for those of these items that are judged, and their lines were
+-- written.
+pub record LostAtEnd (profile : Profile) (items : List Entry) (kept : engine.EngineKept) (old new : Option (List ℕ)) : Type 0 where
+  pub engine_stands : engine.StandsFor kept (history_after [] (accepted profile [] items))
+  pub last : List ℕ
+  pub part : Partly (plus old (lines (verdicts_after profile [] (accepted profile [] items)))) new last
 
 -- The sink failed within the lines of these bytes: a part of the text was written, and the room was too small.
-pub record CutIn (profile : Profile) (bytes : List ℕ) (old new : Option (List ℕ)) (old_room : Option ℕ) : Type 0 where
+pub record CutIn (profile : Profile) (bytes : List ℕ) (kept : engine.EngineKept) (old new : Option (List ℕ)) (old_room : Option ℕ) : Type 0 where
+  pub at_item : (more : List ℕ) → LostAtItem profile (reading (bytes ++ more)).items kept old new
   pub part : (more : List ℕ) (how : How) → Partly old new (text profile (reading (bytes ++ more)) how)
   pub no_room : (more : List ℕ) (how : How) → HasRoom old_room (length (text profile (reading (bytes ++ more)) how)) → ⊥
 
@@ -77,8 +97,9 @@ pub record Blocks (past : List Entry) (x : Entry) (s : Stop) (kept kept' : engin
   pub same_room : new_room ≡ old_room
 
 -- Or the sink fails within its lines.
-pub record Loses (past : List Entry) (x : Entry) (kept : engine.EngineKept) (old new : Option (List ℕ)) (old_room : Option ℕ) : Type 0 where
+pub record Loses (past : List Entry) (x : Entry) (kept kept' : engine.EngineKept) (old new : Option (List ℕ)) (old_room : Option ℕ) : Type 0 where
   pub allowed : blocked kept.profile past x ≡ None
+  pub engine_stands : engine.StandsFor kept' (x ∷ past)
   pub part : Partly old new (lines (verdicts_at kept.profile past x))
   pub no_room : HasRoom old_room (length (lines (verdicts_at kept.profile past x))) → ⊥
 
@@ -86,14 +107,14 @@ abbrev pub ItemJudged : List Entry → Entry → Result (Option Stop) Failed →
     → Option (List ℕ) → Option (List ℕ) → Option ℕ → Option ℕ → Type 0
 ItemJudged past x (Ok None) j j' k k' old new old_room new_room = Accepts past x j j' k k' old new old_room new_room
 ItemJudged past x (Ok (Some s)) j j' k k' old new old_room new_room = Blocks past x s k k' old new old_room new_room
-ItemJudged past x (Err failed) j j' k k' old new old_room new_room = Loses past x k old new old_room
+ItemJudged past x (Err failed) j j' k k' old new old_room new_room = Loses past x k k' old new old_room
 
 -- What a piece leads to, with the bytes before it.
 abbrev pub PieceJudged : Profile → List ℕ → Result (Option Stop) Failed → Judging → engine.EngineKept
     → Option (List ℕ) → Option (List ℕ) → Option ℕ → Option ℕ → Type 0
 PieceJudged p bytes (Ok None) j k old new old_room new_room = SoFar p bytes j k old new old_room new_room
 PieceJudged p bytes (Ok (Some s)) j k old new old_room new_room = RefusedIn p bytes s k old new old_room new_room
-PieceJudged p bytes (Err failed) j k old new old_room new_room = CutIn p bytes old new old_room
+PieceJudged p bytes (Err failed) j k old new old_room new_room = CutIn p bytes k old new old_room
 
 -- Why no more of a file is read: these bytes were read of it and judged, and `extra` bytes past the limit were seen.
 abbrev pub EndsAs : Profile → Ended → List ℕ → List ℕ → Option (List ℕ) → Judging → engine.EngineKept
@@ -115,16 +136,16 @@ pub record Reads (profile : Profile) (ended : Ended) (judging : Judging) (kept :
   pub rest_is : rest ≡ ahead (read ++ extra) rest'
   pub ends : EndsAs profile ended read extra rest' judging kept old new old_room new_room
 
-pub record ReadsCut (profile : Profile) (old new : Option (List ℕ)) (old_room : Option ℕ) (rest rest' : Option (List ℕ)) : Type 0 where
+pub record ReadsCut (profile : Profile) (kept : engine.EngineKept) (old new : Option (List ℕ)) (old_room : Option ℕ) (rest rest' : Option (List ℕ)) : Type 0 where
   pub read : List ℕ
   pub size : length read ≤ limit
   pub rest_is : rest ≡ ahead read rest'
-  pub cut : CutIn profile read old new old_room
+  pub cut : CutIn profile read kept old new old_room
 
 abbrev pub ReadJudged : Profile → Result Ended Failed → Judging → engine.EngineKept
     → Option (List ℕ) → Option (List ℕ) → Option ℕ → Option ℕ → Option (List ℕ) → Option (List ℕ) → Type 0
 ReadJudged p (Ok ended) j k old new old_room new_room rest rest' = Reads p ended j k old new old_room new_room rest rest'
-ReadJudged p (Err failed) j k old new old_room new_room rest rest' = ReadsCut p old new old_room rest rest'
+ReadJudged p (Err failed) j k old new old_room new_room rest rest' = ReadsCut p k old new old_room rest rest'
 
 abbrev pub is_fault : Ended → Bool
 is_fault ended.Whole = false
@@ -142,11 +163,11 @@ pub record Taken (profile : Profile) (ended : Ended) (judging : Judging) (kept :
   pub nothing : opened ≡ false → (read ≡ []) × (is_fault ended ≡ true)
   pub ends : EndsAs profile ended read extra rest judging kept old new old_room new_room
 
-pub record TakenCut (profile : Profile) (old new : Option (List ℕ)) (old_room : Option ℕ) (told : Bool) (file rest : Option (List ℕ)) : Type 0 where
+pub record TakenCut (profile : Profile) (kept : engine.EngineKept) (old new : Option (List ℕ)) (old_room : Option ℕ) (told : Bool) (file rest : Option (List ℕ)) : Type 0 where
   pub read : List ℕ
   pub size : length read ≤ limit
   pub from_file : told ≡ true → file ≡ ahead read rest
-  pub cut : CutIn profile read old new old_room
+  pub cut : CutIn profile read kept old new old_room
 
 -- a fault of the shelf is answered only where it was counted, and nothing else is counted
 abbrev pub ShelfCause : Ended → ℕ → ℕ → Type 0
@@ -186,7 +207,7 @@ nothing_judged = record { reader = reader.start; items = 0; verdicts = 0 }
 abbrev pub CaptureJudged : Profile → Result Ended Failed → Judging → engine.EngineKept
     → Option (List ℕ) → Option (List ℕ) → Option ℕ → Option ℕ → Bool → Option (List ℕ) → Bool → Option (List ℕ) → Type 0
 CaptureJudged p (Ok e) j k old new old_room new_room told file opened rest = Taken p e j k old new old_room new_room told file opened rest
-CaptureJudged p (Err failed) j k old new old_room new_room told file opened rest = TakenCut p old new old_room told file rest
+CaptureJudged p (Err failed) j k old new old_room new_room told file opened rest = TakenCut p k old new old_room told file rest
 
 -- what a look behind the most bytes that are judged finds
 abbrev pub LooksBehind : Ended → List ℕ → Option (List ℕ) → Type 0

@@ -8,7 +8,7 @@ ghost use Rattle.pl_engine.specs.Verdicts.{history_after};
 ghost use Rattle.pl_cli.specs.Output.{cut, items_judged, limit, output, status_of};
 ghost use Rattle.pl_report.specs.Lines.{read_fault_text};
 ghost use Rattle.pl_cli.specs.Source.{TextAndStatus};
-ghost use Rattle.pl_cli.specs.Progress.{CaptureJudged, ReadOf, ShelfCause, is_fault, nothing_judged};
+ghost use Rattle.pl_cli.specs.Progress.{CaptureJudged, LostAtEnd, LostAtItem, ReadOf, ShelfCause, is_fault, nothing_judged};
 
 use crate::capture::read_pieces;
 use crate::closing::close;
@@ -22,7 +22,7 @@ use pl_io::{Failed, Shelf, Sink};
 ///
 /// It takes no memory and always returns. The status is 0 or 1 where the capture was read to its end, 4, 5 or 6
 /// where it is refused, 7 where the shelf failed and 8 where the sink did. The engine then stands for the items
-/// that were judged.
+/// that were judged, also after a fault: one within whose lines the sink failed is among them.
 pub fn check_with<H: Shelf, O: Sink>(
     engine: &mut Engine,
     capture: &str,
@@ -49,6 +49,13 @@ pub fn check_with<H: Shelf, O: Sink>(
         Partly (O.written out.old) (O.written out.new) (output engine.old.profile b)
         ⊎ (Rose (H.faults shelf.old) (H.faults shelf.new)
         × ((read : List ℕ) × ReadOf b (H.is_open shelf.new) (H.rest shelf.new) read × Partly (O.written out.old) (O.written out.new) (cut engine.old.profile read))) }
+
+    // The engine then stands for the items up to the one within whose lines the sink failed, it included; or for all
+    // that are judged of what was read, where the sink failed within the last line.
+    ensures lost { H.told shelf.old ≡ true → (b : List ℕ) → H.file shelf.old capture.now ≡ Some b → result ≡ 8 →
+        (read : List ℕ) × ReadOf b (H.is_open shelf.new) (H.rest shelf.new) read
+        × (LostAtItem engine.old.profile (reading (take limit read)).items engine.new (O.written out.old) (O.written out.new)
+        ⊎ LostAtEnd engine.old.profile (reading (take limit read)).items engine.new (O.written out.old) (O.written out.new)) }
 
     // A capture that isn't there is a fault of the shelf before anything is read.
     ensures no_capture { H.told shelf.old ≡ true → H.file shelf.old capture.now ≡ None → TextAndStatus read_fault_text 7 (O.written out.old) (O.written out.new) result }
@@ -87,6 +94,7 @@ fn read_capture<H: Shelf, O: Sink>(
     ensures never_fails { H.sure shelf.old ≡ true → IsSome (H.file shelf.old capture.now) → IfOk result (λ ended. is_fault ended ≡ false) }
     ensures shelf_cause { IfOk result (λ ended. ShelfCause ended (H.faults shelf.old) (H.faults shelf.new)) }
     ensures shelf_kept { OnErr result (H.faults shelf.new ≡ H.faults shelf.old) }
+    ensures opened { OnErr result (H.is_open shelf.new ≡ true) }
     ensures cause { HasCause (O.faults out.old) (O.faults out.new) result }
 {
     match shelf.open(capture) {

@@ -1,5 +1,5 @@
 use Rattle.std.proofs.Common.{◌∙◌, sym, subst, refl, inl, IsSome}
-use Rattle.pl_cli.proofs.Tops.{cause_kept, cause_rose, ended_is, not_ended, not_fault, top_absent, top_cut, top_exact, top_known, top_lost, top_part, top_room}
+use Rattle.pl_cli.proofs.Tops.{cause_kept, cause_rose, ended_is, not_ended, not_fault, top_absent, top_cut, top_exact, top_known, top_lost, top_lost_end, top_lost_item, top_part, top_room}
 use Rattle.pl_cli.proofs.with_engine.check_with.Goals as goal
 
 pub returns-in-Ok-clause-exact : goal.returns-in-Ok-clause-exact
@@ -45,3 +45,9 @@ returns-in-Ok-clause-no_capture g c = λ told none. let a = c.in-Ok.ensures.abse
 
 pub returns-in-Err-clause-no_capture : goal.returns-in-Err-clause-no_capture
 returns-in-Err-clause-no_capture g c = λ told none. absurd (not_ended _ (c.in-Err.ensures.absent told none).0)
+
+pub returns-in-Ok-clause-lost : goal.returns-in-Ok-clause-lost
+returns-in-Ok-clause-lost g c = λ told b file is8. top_lost_end c.in-Ok.ended c.close.result c.in-Ok.ensures.judged c.close.ensures.closed told b file is8
+
+pub returns-in-Err-clause-lost : goal.returns-in-Err-clause-lost
+returns-in-Err-clause-lost g c = λ told b file is8. top_lost_item c.in-Err.ensures.judged c.in-Err.ensures.opened told b file
