@@ -4,12 +4,26 @@ ghost use Rattle.std.specs.Prelude.{◌≡◌, ◌==◌, ◌%◌, ◌+◌, ◌�
 ghost use Rattle.arrayvec.specs.ArrayVec.{array_vec_len};
 ghost use Rattle.pl_tlp.specs.Fields.{fields};
 ghost use Rattle.pl_form.specs.Atomics as spec;
-ghost use Rattle.pl_form.specs.Verdicts.{atomic_verdicts};
+ghost use Rattle.pl_form.specs.Kinds as spec_kinds;
+ghost use Rattle.pl_form.specs.Verdicts.{atomic_verdicts, memory_verdicts};
 
 use crate::kinds::{is_atomic, is_compare_and_swap};
+use crate::memory::{breaks_m6, is_too_long};
 use crate::verdict::add_if;
-use pl_base::{Found, Rule};
+use pl_base::{Dir, Found, Rule};
+use pl_profile::Profile;
 use pl_tlp::Tlp;
+
+/// Adds what an AtomicOp breaks of M3 to M8: M3 and M6.
+pub(crate) fn judge_operands(profile: &Profile, dir: Dir, tlp: &Tlp, at: u64, found: &mut Found)
+    requires kind { spec_kinds.is_atomic tlp.now.kind ≡ true }
+    requires room { array_vec_len found.old ≤ 26 }
+    ensures items { found.new.items ≡ found.old.items ++ memory_verdicts profile.now dir (fields tlp.now) at }
+    ensures most { array_vec_len found.new ≤ array_vec_len found.old + 2 }
+{
+    add_if(is_too_long(profile, dir, tlp), Rule::M3, at, found);
+    add_if(breaks_m6(tlp), Rule::M6, at, found);
+}
 
 /// Adds what a TLP breaks of M11 and M12.
 #[tactic(auto, unfolding(crate::specs::Verdicts::atomic_verdicts))]

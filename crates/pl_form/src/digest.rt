@@ -15,9 +15,18 @@ pub(crate) fn breaks_m18(tlp: &Tlp) -> bool
     ensures { result ≡ spec.breaks_m18 (fields tlp.now) }
 {
     match &tlp.digest {
-        Some(digest) => digest.as_slice() != ecrc(tlp).as_slice(),
+        Some(digest) => is_wrong(digest, tlp),
         None => false,
     }
+}
+
+/// Whether a digest isn't the ECRC. Apart, since few TLPs have one.
+#[inline(never)]
+fn is_wrong(digest: &[u8; 4], tlp: &Tlp) -> bool
+    requires { 12 ≤ length tlp.now.header.now }
+    ensures { result ≡ spec.is_wrong_digest (Some digest.now) (spec.ecrc_of (fields tlp.now)) }
+{
+    digest.as_slice() != ecrc(tlp).as_slice()
 }
 
 /// The ECRC over the End-End prefixes, the header with its two variant bits taken as 1, and the data.

@@ -6,10 +6,10 @@ ghost use Rattle.pl_tlp.specs.Fields.{fields, outcome, Whole};
 ghost use Rattle.pl_tlp.specs.Fit.{Fits, FitsIfWhole};
 ghost use Rattle.pl_form.specs.Verdicts.{formation_verdicts, kind_verdicts, other_verdicts, whole_verdicts, HasHeaderIfWhole};
 
-use crate::atomics::judge_atomic;
+use crate::atomics::{judge_atomic, judge_operands};
 use crate::configuration::judge_configuration;
 use crate::digest::breaks_m18;
-use crate::memory::judge_memory;
+use crate::memory::{is_too_long, judge_memory};
 use crate::messages::judge_message;
 use crate::prefixes::breaks_m19;
 use crate::traffic::{breaks_m16, breaks_m17, breaks_m20};
@@ -77,11 +77,12 @@ fn judge_kind(profile: &Profile, dir: Dir, tlp: &Tlp, at: u64, found: &mut Found
             judge_configuration(dir, tlp, at, found)
         }
         Kind::FetchAdd | Kind::Swap | Kind::Cas => {
-            judge_memory(profile, dir, tlp, at, found);
+            judge_operands(profile, dir, tlp, at, found);
             judge_atomic(tlp, at, found);
         }
-        Kind::Msg | Kind::MsgD => {
-            judge_memory(profile, dir, tlp, at, found);
+        Kind::Msg => judge_message(dir, tlp, at, found),
+        Kind::MsgD => {
+            add_if(is_too_long(profile, dir, tlp), Rule::M3, at, found);
             judge_message(dir, tlp, at, found);
         }
         Kind::Cpl | Kind::CplD | Kind::CplLk | Kind::CplDLk => {}

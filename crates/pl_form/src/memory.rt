@@ -1,31 +1,40 @@
 //! The rules M3 to M8: how much a TLP carries or reads, where, and which bytes.
 //! PCI Express Base Specification 5.0, chapter 2, transaction layer protocol: TLPs with data payloads,
 //! memory requests, byte enables.
-ghost use Rattle.std.specs.Prelude.{◌≡◌, ◌+◌, ◌≤◌, ◌++◌};
+ghost use Rattle.std.specs.Prelude.{◌≡◌, ◌+◌, ◌≤◌, ◌++◌, ◌||◌, true};
 ghost use Rattle.arrayvec.specs.ArrayVec.{array_vec_len};
 ghost use Rattle.pl_tlp.specs.Fields.{fields};
+ghost use Rattle.pl_form.specs.Kinds.{is_atomic, is_memory_request};
 ghost use Rattle.pl_form.specs.Memory as spec;
 ghost use Rattle.pl_form.specs.Verdicts.{memory_verdicts};
 
-use crate::kinds::{is_atomic, is_memory_read, is_memory_request};
+use crate::kinds::is_memory_read;
 use crate::verdict::add_if;
 use pl_base::{Dir, Found, Rule};
 use pl_profile::Profile;
 use pl_tlp::{Kind, Tlp};
 
-/// Adds what a TLP breaks of M3 to M8.
+/// The Address Type of a request for translation.
+const TRANSLATION_REQUEST: u8 = 1;
+
+/// Adds what a memory request breaks of M3 to M8. A request for translation breaks none but M3.
 #[tactic(auto, unfolding(crate::specs::Verdicts::memory_verdicts))]
 pub(crate) fn judge_memory(profile: &Profile, dir: Dir, tlp: &Tlp, at: u64, found: &mut Found)
-    requires { array_vec_len found.old ≤ 26 }
+    requires request { is_memory_request tlp.now.kind ≡ true }
+    requires room { array_vec_len found.old ≤ 26 }
     ensures items { found.new.items ≡ found.old.items ++ memory_verdicts profile.now dir (fields tlp.now) at }
     ensures most { array_vec_len found.new ≤ array_vec_len found.old + 6 }
 {
     add_if(breaks_m3(profile, dir, tlp), Rule::M3, at, found);
-    add_if(breaks_m4(profile, dir, tlp), Rule::M4, at, found);
-    add_if(breaks_m5(tlp), Rule::M5, at, found);
-    add_if(breaks_m6(tlp), Rule::M6, at, found);
-    add_if(breaks_m7(tlp), Rule::M7, at, found);
-    add_if(breaks_m8(tlp), Rule::M8, at, found);
+    if tlp.at != TRANSLATION_REQUEST {
+        add_if(breaks_m4(profile, dir, tlp), Rule::M4, at, found);
+        add_if(breaks_m5(tlp), Rule::M5, at, found);
+        add_if(breaks_m6(tlp), Rule::M6, at, found);
+        if !tlp.th {
+            add_if(breaks_m7(tlp), Rule::M7, at, found);
+            add_if(breaks_m8(tlp), Rule::M8, at, found);
+        }
+    }
 }
 
 /// Whether the data are longer than the Max_Payload_Size of the direction.
@@ -35,70 +44,53 @@ pub(crate) fn is_too_long(profile: &Profile, dir: Dir, tlp: &Tlp) -> bool
     tlp.payload.len() > usize::from(profile.max_payload[dir.index()])
 }
 
-/// M3: MWr, MsgD or an AtomicOp whose data are longer than Max_Payload_Size.
+/// M3 of a memory request: a write whose data are longer than Max_Payload_Size.
 fn breaks_m3(profile: &Profile, dir: Dir, tlp: &Tlp) -> bool
+    requires { is_memory_request tlp.now.kind ≡ true }
     ensures { result ≡ spec.breaks_m3 profile.now dir (fields tlp.now) }
 {
-    match tlp.kind {
-        Kind::MWr | Kind::MsgD | Kind::FetchAdd | Kind::Swap | Kind::Cas => {
-            is_too_long(profile, dir, tlp)
-        }
-        _ => false,
-    }
-}
-
-/// Whether it is a memory request that isn't a request for translation.
-fn is_judged(tlp: &Tlp) -> bool
-    ensures { result ≡ spec.is_judged (fields tlp.now) }
-{
-    is_memory_request(tlp.kind) && tlp.at != 1
+    matches!(tlp.kind, Kind::MWr) && is_too_long(profile, dir, tlp)
 }
 
 /// M4: a memory read of more bytes than Max_Read_Request_Size.
 fn breaks_m4(profile: &Profile, dir: Dir, tlp: &Tlp) -> bool
+    requires { spec.is_judged (fields tlp.now) ≡ true }
     ensures { result ≡ spec.breaks_m4 profile.now dir (fields tlp.now) }
 {
-    is_judged(tlp)
-        && is_memory_read(tlp.kind)
-        && 4 * u32::from(tlp.length) > u32::from(profile.max_read[dir.index()])
+    is_memory_read(tlp.kind) && 4 * u32::from(tlp.length) > u32::from(profile.max_read[dir.index()])
 }
 
 /// M5: a memory request that goes on behind a boundary of 4 KB.
 fn breaks_m5(tlp: &Tlp) -> bool
+    requires { spec.is_judged (fields tlp.now) ≡ true }
     ensures { result ≡ spec.breaks_m5 (fields tlp.now) }
 {
-    is_judged(tlp) && tlp.address % 4096 + 4 * u64::from(tlp.length) > 4096
+    tlp.address % 4096 + 4 * u64::from(tlp.length) > 4096
 }
 
 /// M6: a memory request or AtomicOp with a header of 4 DW, and an address below 4 GB.
-fn breaks_m6(tlp: &Tlp) -> bool
+pub(crate) fn breaks_m6(tlp: &Tlp) -> bool
+    requires { (spec.is_judged (fields tlp.now) || is_atomic tlp.now.kind) ≡ true }
     ensures { result ≡ spec.breaks_m6 (fields tlp.now) }
 {
-    (is_judged(tlp) || is_atomic(tlp.kind)) && tlp.wide && tlp.address < 1 << 32
-}
-
-/// Whether the byte enables say which bytes are meant: processing hints take their place.
-fn has_byte_enables(tlp: &Tlp) -> bool
-    ensures { result ≡ spec.has_byte_enables (fields tlp.now) }
-{
-    is_judged(tlp) && !tlp.th
+    tlp.wide && tlp.address < 1 << 32
 }
 
 /// M7: of one DW, byte enables in the field of the last DW; of more, none in one of both fields.
 fn breaks_m7(tlp: &Tlp) -> bool
+    requires { spec.has_byte_enables (fields tlp.now) ≡ true }
     ensures { result ≡ spec.breaks_m7 (fields tlp.now) }
 {
-    has_byte_enables(tlp)
-        && ((tlp.length == 1 && tlp.last_be != 0)
-            || (tlp.length > 1 && (tlp.first_be == 0 || tlp.last_be == 0)))
+    (tlp.length == 1 && tlp.last_be != 0)
+        || (tlp.length > 1 && (tlp.first_be == 0 || tlp.last_be == 0))
 }
 
 /// M8: of more than one DW, a gap in the enabled bytes.
 fn breaks_m8(tlp: &Tlp) -> bool
+    requires { spec.has_byte_enables (fields tlp.now) ≡ true }
     ensures { result ≡ spec.breaks_m8 (fields tlp.now) }
 {
-    has_byte_enables(tlp)
-        && tlp.length > 1
+    tlp.length > 1
         && tlp.first_be != 0
         && tlp.last_be != 0
         && !is_one_qw(tlp)

@@ -16,6 +16,14 @@ const MOST_END_END: usize = 4;
 pub(crate) fn breaks_m19(tlp: &Tlp) -> bool
     ensures { result ≡ spec.breaks_m19 (fields tlp.now) }
 {
+    !tlp.prefixes.is_empty() && are_misplaced(tlp)
+}
+
+/// The same, one prefix at a time. Apart, since few TLPs have any.
+#[inline(never)]
+fn are_misplaced(tlp: &Tlp) -> bool
+    ensures { result ≡ spec.breaks_m19 (fields tlp.now) }
+{
     let mut rest = tlp.prefixes;
     let mut end_ends = 0;
     let mut late_local = false;

@@ -1,7 +1,7 @@
 use Rattle.std.proofs.Common.{◌≡◌, ◌+◌, ◌≤◌, ◌||◌, length, false}
 use Rattle.std.specs.Prelude.{nat_lt}
 use Rattle.pl_form.specs.Prefixes.{end_ends, has_late_local, end_end_count}
-use Rattle.pl_form.proofs.prefixes.breaks_m19.Given as goal
+use Rattle.pl_form.proofs.prefixes.are_misplaced.Given as goal
 
 abbrev pub invariant-loop-rest : goal.invariant-loop-rest
 invariant-loop-rest l = record {
