@@ -66,7 +66,8 @@ fn judge_whole(profile: &Profile, dir: Dir, tlp: &Tlp, at: u64, found: &mut Foun
 /// Adds what a TLP breaks of M3 to M15. The rules that can't apply to its kind aren't tried.
 #[tactic(auto, unfolding(crate::specs::Verdicts::kind_verdicts, crate::specs::Verdicts::memory_verdicts, crate::specs::Verdicts::configuration_verdicts, crate::specs::Verdicts::atomic_verdicts, crate::specs::Verdicts::message_verdicts))]
 fn judge_kind(profile: &Profile, dir: Dir, tlp: &Tlp, at: u64, found: &mut Found)
-    requires { array_vec_len found.old ≤ 19 }
+    requires length { 1 ≤ tlp.now.length }
+    requires room { array_vec_len found.old ≤ 19 }
     ensures items { found.new.items ≡ found.old.items ++ kind_verdicts profile.now dir (fields tlp.now) at }
     ensures most { array_vec_len found.new ≤ array_vec_len found.old + 13 }
 {

@@ -21,6 +21,7 @@ const TRANSLATION_REQUEST: u8 = 1;
 #[tactic(auto, unfolding(crate::specs::Verdicts::memory_verdicts))]
 pub(crate) fn judge_memory(profile: &Profile, dir: Dir, tlp: &Tlp, at: u64, found: &mut Found)
     requires request { is_memory_request tlp.now.kind ≡ true }
+    requires length { 1 ≤ tlp.now.length }
     requires room { array_vec_len found.old ≤ 26 }
     ensures items { found.new.items ≡ found.old.items ++ memory_verdicts profile.now dir (fields tlp.now) at }
     ensures most { array_vec_len found.new ≤ array_vec_len found.old + 6 }
@@ -78,23 +79,28 @@ pub(crate) fn breaks_m6(tlp: &Tlp) -> bool
 
 /// M7: of one DW, byte enables in the field of the last DW; of more, none in one of both fields.
 fn breaks_m7(tlp: &Tlp) -> bool
-    requires { spec.has_byte_enables (fields tlp.now) ≡ true }
+    requires judged { spec.has_byte_enables (fields tlp.now) ≡ true }
+    requires length { 1 ≤ tlp.now.length }
     ensures { result ≡ spec.breaks_m7 (fields tlp.now) }
 {
-    (tlp.length == 1 && tlp.last_be != 0)
-        || (tlp.length > 1 && (tlp.first_be == 0 || tlp.last_be == 0))
+    if tlp.length == 1 {
+        tlp.last_be != 0
+    } else {
+        tlp.first_be == 0 || tlp.last_be == 0
+    }
 }
 
 /// M8: of more than one DW, a gap in the enabled bytes.
 fn breaks_m8(tlp: &Tlp) -> bool
-    requires { spec.has_byte_enables (fields tlp.now) ≡ true }
+    requires judged { spec.has_byte_enables (fields tlp.now) ≡ true }
+    requires length { 1 ≤ tlp.now.length }
     ensures { result ≡ spec.breaks_m8 (fields tlp.now) }
 {
-    tlp.length > 1
+    tlp.length != 1
         && tlp.first_be != 0
         && tlp.last_be != 0
-        && !is_one_qw(tlp)
         && !(reaches_end(tlp.first_be) && begins_at_start(tlp.last_be))
+        && !is_one_qw(tlp)
 }
 
 /// Whether it is two DW that lie in one QW, where gaps are allowed.
