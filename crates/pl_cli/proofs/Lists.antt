@@ -4,7 +4,8 @@ use Rattle.pl_base.specs.declared.stop.Stop.{Stop}
 use Rattle.pl_capture.specs.Entry.{Entry}
 use Rattle.pl_profile.specs.declared.profile.Profile.{Profile}
 use Rattle.pl_engine.specs.declared.refused.Refused.{Refused}
-use Rattle.pl_engine.specs.Verdicts.{accept, accepted, blocked, history_after, number_after, refusal, refuse, verdicts_after, verdicts_at}
+use Rattle.pl_engine.specs.Events.{number_after}
+use Rattle.pl_engine.specs.Verdicts.{accept, accepted, blocked, history_after, refusal, refuse, verdicts_after, verdicts_at}
 
 pub history-append : (past xs ys : List Entry) → history_after past (xs ++ ys) ≡ history_after (history_after past xs) ys
 history-append past [] ys = refl

@@ -9,7 +9,8 @@ use Rattle.pl_capture.specs.Reading.{Reading, Ending, reading, Bad}
 use Rattle.pl_profile.specs.declared.profile.Profile.{Profile}
 use Rattle.pl_engine.specs.Engine as engine
 use Rattle.pl_engine.specs.declared.refused.Refused.{Refused}
-use Rattle.pl_engine.specs.Verdicts.{blocked, history_after, number_after, refusal, refuse, verdicts_after, verdicts_at}
+use Rattle.pl_engine.specs.Events.{number_after}
+use Rattle.pl_engine.specs.Verdicts.{blocked, history_after, refusal, refuse, verdicts_after, verdicts_at}
 use Rattle.pl_report.specs.Lines.{stop_text}
 use Rattle.pl_cli.specs.declared.judging.Judging.{Judging}
 use Rattle.pl_cli.specs.Output.{Cause, How, cause_of_ending, items_judged, lines, status, stop_status, text}

@@ -66,4 +66,4 @@ so_far_item {p} {k} {k'} {w} {w1} {w2} {r} {r1} {r2} {j} {j'} before bytes x j1 
     }
   where
     no_more : (p : Profile) (past : List Entry) (x : Entry) → blocked p past x ≡ None → refusal p past (x ∷ []) ≡ None
-    no_more p past x h = ap (λ o. Rattle.pl_engine.specs.Verdicts.refuse o (Rattle.pl_engine.specs.Verdicts.number_after past) None) h
+    no_more p past x h = ap (λ o. Rattle.pl_engine.specs.Verdicts.refuse o (Rattle.pl_engine.specs.Events.number_after past) None) h

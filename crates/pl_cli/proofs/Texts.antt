@@ -7,7 +7,8 @@ use Rattle.pl_capture.specs.Entry.{Entry}
 use Rattle.pl_capture.specs.Reading.{Reading}
 use Rattle.pl_profile.specs.declared.profile.Profile.{Profile}
 use Rattle.pl_engine.specs.declared.refused.Refused.{Refused}
-use Rattle.pl_engine.specs.Verdicts.{accept, accepted, blocked, history_after, number_after, refusal, refuse, stop_of, verdicts_after, verdicts_at}
+use Rattle.pl_engine.specs.Events.{number_after}
+use Rattle.pl_engine.specs.Verdicts.{accept, accepted, blocked, history_after, refusal, refuse, stop_of, verdicts_after, verdicts_at}
 use Rattle.pl_report.specs.Lines.{stop_text, verdict_text}
 use Rattle.pl_cli.specs.Output.{How, Cause, AtRefusal, cause_of, cause_of_ending, cause_status, items_judged, last_text, lines, status, stop_status, text}
 use Rattle.pl_cli.proofs.Lists.{accepted-append, accepted_all, refusal-append, verdicts-append}

@@ -14,7 +14,8 @@ use Rattle.pl_capture.specs.declared.step.Step.TheVariants as step
 use Rattle.pl_profile.specs.declared.profile.Profile.{Profile}
 use Rattle.pl_engine.specs.declared.refused.Refused.{Refused}
 use Rattle.pl_engine.specs.Engine as engine
-use Rattle.pl_engine.specs.Verdicts.{accepted, blocked, history_after, number_after, refusal, stop_of, verdicts_after, verdicts_at}
+use Rattle.pl_engine.specs.Events.{number_after}
+use Rattle.pl_engine.specs.Verdicts.{accepted, blocked, history_after, refusal, stop_of, verdicts_after, verdicts_at}
 use Rattle.pl_cli.specs.declared.judging.Judging.{Judging}
 use Rattle.pl_cli.specs.declared.judging.Ended.{Ended}
 use Rattle.pl_cli.specs.declared.judging.Ended.TheVariants as ended

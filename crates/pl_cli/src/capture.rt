@@ -120,6 +120,7 @@ fn judge_piece<O: Sink>(
     ensures engine { OnOk result (engine.new.items ≤ engine.old.items + length piece.now) }
     ensures cause { HasCause (O.faults out.old) (O.faults out.new) result }
 {
+    let mut found = Found::new();
     let mut place = 0;
     while place < piece.len() {
         match judging.reader.feed(&piece[place..]) {
@@ -128,7 +129,7 @@ fn judge_piece<O: Sink>(
             Step::Bad(stop) => return Ok(Some(stop)),
             Step::Item { used } => {
                 place += used;
-                match judge_item(judging, engine, out) {
+                match judge_item(judging, engine, &mut found, out) {
                     Ok(None) => {}
                     Ok(Some(stop)) => return Ok(Some(stop)),
                     Err(failed) => return Err(failed),
@@ -139,33 +140,40 @@ fn judge_piece<O: Sink>(
     Ok(None)
 }
 
-/// Judges the item that the reader lends, and writes its verdicts. Some where the engine refuses it.
+/// Judges the item that the reader lends, and writes its verdicts. Some where the engine refuses it. The list `found`
+/// is empty before, and again behind the lines.
 fn judge_item<O: Sink>(
     judging: &mut Judging,
     engine: &mut Engine,
+    found: &mut Found,
     out: &mut O,
 ) -> Result<Option<Stop>, Failed>
     requires holds { (x : Entry) × (judging.old.reader.phase ≡ Holding x) }
     requires items { judging.old.items < 2 ^ 58 }
     requires verdicts { judging.old.verdicts ≤ judging.old.items * 32 }
     requires engine { engine.old.items < 2 ^ 58 }
+    requires none { found.old.items ≡ [] }
     ensures judged { (past : List Entry) (x : Entry) → judging.old.reader.phase ≡ Holding x → StandsFor engine.old past → judging.old.items ≡ length past →
         ItemJudged past x result judging.old judging.new engine.old engine.new (O.written out.old) (O.written out.new) (O.room out.old) (O.room out.new) }
     ensures reader { judging.new.reader ≡ judging.old.reader }
     ensures items { judging.new.items ≤ judging.old.items + 1 }
     ensures verdicts { judging.new.verdicts ≤ judging.new.items * 32 }
     ensures engine { engine.new.items ≤ engine.old.items + 1 }
+    ensures none { OnOk result (found.new.items ≡ []) }
     ensures cause { HasCause (O.faults out.old) (O.faults out.new) result }
 {
     let item = match judging.reader.item() {
         Some(item) => item,
         None => unreachable!(),
     };
-    match engine.feed(&item) {
-        Ok(found) => {
+    match engine.feed_into(&item, found) {
+        Ok(()) => {
             judging.count(found.len());
-            match write_verdicts(&found, out) {
-                Ok(()) => Ok(None),
+            match write_verdicts(found, out) {
+                Ok(()) => {
+                    found.clear();
+                    Ok(None)
+                }
                 Err(failed) => Err(failed),
             }
         }

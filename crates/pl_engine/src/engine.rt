@@ -1,29 +1,53 @@
 //! The engine itself.
-ghost use Rattle.std.specs.Prelude.{◌≡◌, ◌+◌, ◌<◌, ◌≤◌, ◌∷◌, ◌^◌, [], List, IfOk, IfErr, OnOk, OnErr, Some, None};
+ghost use Rattle.std.specs.Prelude.{◌≡◌, ◌≢◌, ◌+◌, ◌<◌, ◌≤◌, ◌∷◌, ◌++◌, ◌^◌, [], List, IfOk, IfErr, OnOk, OnErr, Some, None, length};
 ghost use Rattle.arrayvec.specs.ArrayVec.{array_vec_len};
-ghost use Rattle.pl_capture.specs.Entry.{Entry, view, IsLawful};
+ghost use Rattle.pl_capture.specs.Entry.{Entry, view as entry, IsLawful};
+ghost use Rattle.pl_pair.specs.Pairs.{room_of};
+ghost use Rattle.pl_pair.specs.History.{outstanding};
+ghost use Rattle.pl_seq.specs.History.{place_of, unacknowledged};
+ghost use Rattle.pl_engine.specs.Events.{lane_events, pair_events};
+ghost use Rattle.pl_seq.specs.Lane.{latest_position};
+ghost use Rattle.pl_engine.specs.Lanes.{lane_in};
+ghost use Rattle.pl_engine.specs.Packets.{sequence_number};
+ghost use Rattle.pl_engine.specs.State.{state_of};
 
-use crate::link::judge_link;
+use crate::flow::{hear, spend};
+use crate::lanes::Lanes;
+use crate::packet::{dllp_of, tlp_of};
 use crate::refused::Refused;
-use pl_base::Found;
-use pl_capture::Item;
+use crate::state::body;
+use crate::transactions::{refusal, transact};
+use crate::verdict::add_if;
+use pl_base::{Body, Dir, Found, Rule};
+use pl_capture::{Item, ItemKind};
+use pl_credit::Credits;
+use pl_dllp::Decoded;
+use pl_form::add_formation;
+use pl_pair::Pairs;
 use pl_profile::Profile;
+use pl_seq::Place;
+use pl_tlp::view;
 use std::alloc::{AllocError, Global};
-use std::marker::Model;
+
+/// How many notes stand for the latest items, the initial credits, the grants and the marks.
+const NOTES: u64 = 512;
 
 /// Judges the items of a capture one after another, under the profile with which it was opened.
+///
+/// It keeps no item: only the numbers and the unacknowledged TLPs of both lanes, the credits, and the open requests.
 #[derive(Drop)]
 pub struct Engine {
     profile: Profile,
     items: u64,
-}
-
-impl Model for Engine {
-    ghost use Rattle.pl_engine.specs.Engine.{EngineKept};
-
-    ghost Value = { EngineKept };
-
-    ghost view = { λ e. record { profile = e.profile; items = e.items } };
+    lanes: Lanes,
+    credits: Credits,
+    pairs: Pairs,
+    ghost down_room: { lanes.down.room ≡ profile.unacknowledged },
+    ghost up_room: { lanes.up.room ≡ profile.unacknowledged },
+    ghost down_rises: { latest_position lanes.down.latest_tlp ≤ items },
+    ghost up_rises: { latest_position lanes.up.latest_tlp ≤ items },
+    ghost credits_profile: { credits.profile ≡ profile },
+    ghost pairs_room: { room_of pairs ≡ profile.outstanding },
 }
 
 impl Engine {
@@ -31,35 +55,202 @@ impl Engine {
     ghost use Rattle.pl_engine.specs.Verdicts.{blocked, verdicts_at};
 
     /// An engine that has judged nothing. It takes all the memory that it ever uses.
+    ///
+    /// # Errors
+    ///
+    /// Where this memory is wanting.
     pub fn open(alloc: Global, profile: Profile) -> Result<Engine, AllocError>
         ensures stands { IfOk result (λ engine. StandsFor engine []) }
         ensures profile { IfOk result (λ engine. engine.profile ≡ profile) }
         ensures items { IfOk result (λ engine. engine.items ≡ 0) }
     {
-        let _ = alloc;
-        Ok(Engine { profile, items: 0 })
+        let lanes = Lanes::open(alloc, profile.unacknowledged)?;
+        let pairs = Pairs::open(alloc, profile.outstanding)?;
+        Ok(Engine {
+            profile,
+            items: 0,
+            lanes,
+            credits: Credits::new(&profile),
+            pairs,
+        })
     }
 
     /// Judges the next item: the verdicts, in the order of the rules. It takes no memory.
     ///
-    /// After a refusal the engine is unchanged.
-    #[tactic(auto, unfolding(crate::specs::Verdicts::verdicts_at, crate::specs::Verdicts::blocked))]
+    /// # Errors
+    ///
+    /// Where the item would be taken and has no room among the unacknowledged TLPs of its direction, where it is a
+    /// request that needs a completion or a completion with a tag of ten bits, or where it has no room among the open
+    /// requests; in this order. The engine is then unchanged.
     pub fn feed(&mut self, item: &Item) -> Result<Found, Refused>
-        requires lawful { IsLawful (view item.now) }
+        requires lawful { IsLawful (entry item.now) }
         requires few { self.old.items < 2 ^ 59 }
 
         // For every history for which the engine stands, the answer is that of the rules.
-        ensures refused { (past : List Entry) → StandsFor self.old past → IfErr result (λ refused. blocked self.old.profile past (view item.now) ≡ Some refused) }
-        ensures allowed { (past : List Entry) → StandsFor self.old past → OnOk result (blocked self.old.profile past (view item.now) ≡ None) }
-        ensures verdicts { (past : List Entry) → StandsFor self.old past → IfOk result (λ found. found.items ≡ verdicts_at self.old.profile past (view item.now)) }
-        ensures stands { (past : List Entry) → StandsFor self.old past → OnOk result (StandsFor self.new (view item.now ∷ past)) }
+        ensures refused { (past : List Entry) → StandsFor self.old past → IfErr result (λ refused. blocked self.old.profile past (entry item.now) ≡ Some refused) }
+        ensures allowed { (past : List Entry) → StandsFor self.old past → OnOk result (blocked self.old.profile past (entry item.now) ≡ None) }
+        ensures verdicts { (past : List Entry) → StandsFor self.old past → IfOk result (λ found. found.items ≡ verdicts_at self.old.profile past (entry item.now)) }
+        ensures stands { (past : List Entry) → StandsFor self.old past → OnOk result (StandsFor self.new (entry item.now ∷ past)) }
 
         ensures most { IfOk result (λ found. array_vec_len found ≤ 32) }
         ensures profile { self.new.profile ≡ self.old.profile }
         ensures items { OnOk result (self.new.items ≡ self.old.items + 1) }
         ensures err { OnErr result (self.new ≡ self.old) }
     {
+        let mut found = Found::new();
+        self.feed_into(item, &mut found)?;
+        Ok(found)
+    }
+
+    /// As [`Engine::feed`], with the verdicts in a list that was empty, and is empty after a refusal.
+    pub fn feed_into(&mut self, item: &Item, found: &mut Found) -> Result<(), Refused>
+        requires lawful { IsLawful (entry item.now) }
+        requires few { self.old.items < 2 ^ 59 }
+        requires none { found.old.items ≡ [] }
+        ensures refused { (past : List Entry) → StandsFor self.old past → IfErr result (λ refused. blocked self.old.profile past (entry item.now) ≡ Some refused) }
+        ensures allowed { (past : List Entry) → StandsFor self.old past → OnOk result (blocked self.old.profile past (entry item.now) ≡ None) }
+        ensures verdicts { (past : List Entry) → StandsFor self.old past → OnOk result (found.new.items ≡ verdicts_at self.old.profile past (entry item.now)) }
+        ensures stands { (past : List Entry) → StandsFor self.old past → OnOk result (StandsFor self.new (entry item.now ∷ past)) }
+        ensures most { array_vec_len found.new ≤ 32 }
+        ensures profile { self.new.profile ≡ self.old.profile }
+        ensures items { OnOk result (self.new.items ≡ self.old.items + 1) }
+        ensures err { OnErr result (self.new ≡ self.old) }
+        ensures none { OnErr result (found.new ≡ found.old) }
+    {
+        match item.kind {
+            ItemKind::Tlp => self.tlp(item, found),
+            ItemKind::Dllp => {
+                self.dllp(item, found);
+                Ok(())
+            }
+            ItemKind::LinkDown => {
+                self.link_down();
+                Ok(())
+            }
+        }
+    }
+
+    /// How many things it keeps of the items, however many these were: the open requests, the unacknowledged TLPs of
+    /// both directions, and 512 for the latest items, the initial credits, the grants and the marks, which are never
+    /// more.
+    pub fn kept(&self) -> u64
+        ensures { (past : List Entry) → StandsFor self.now past →
+            result ≡ outstanding (pair_events past) + (length (unacknowledged (lane_events Dir.Down past)) + length (unacknowledged (lane_events Dir.Up past))) + 512 }
+    {
+        u64::from(self.pairs.outstanding()) + self.lanes.unacknowledged() + NOTES
+    }
+
+    /// A TLP, however it arrived.
+    #[tactic(auto, unfolding(crate::specs::Verdicts::verdicts_at, crate::specs::Verdicts::blocked))]
+    fn tlp(&mut self, item: &Item, found: &mut Found) -> Result<(), Refused>
+        requires kind { item.now.kind ≡ ItemKind.Tlp }
+        requires lawful { IsLawful (entry item.now) }
+        requires few { self.old.items < 2 ^ 59 }
+        requires none { found.old.items ≡ [] }
+        ensures refused { (past : List Entry) → StandsFor self.old past → IfErr result (λ refused. blocked self.old.profile past (entry item.now) ≡ Some refused) }
+        ensures allowed { (past : List Entry) → StandsFor self.old past → OnOk result (blocked self.old.profile past (entry item.now) ≡ None) }
+        ensures verdicts { (past : List Entry) → StandsFor self.old past → OnOk result (found.new.items ≡ verdicts_at self.old.profile past (entry item.now)) }
+        ensures stands { (past : List Entry) → StandsFor self.old past → OnOk result (StandsFor self.new (entry item.now ∷ past)) }
+        ensures most { array_vec_len found.new ≤ 32 }
+        ensures profile { self.new.profile ≡ self.old.profile }
+        ensures items { OnOk result (self.new.items ≡ self.old.items + 1) }
+        ensures err { OnErr result (self.new ≡ self.old) }
+        ensures none { OnErr result (found.new ≡ found.old) }
+    {
+        let arrived = body(item);
+        if self.lanes.place(item, arrived) == Place::Taken {
+            return self.taken_tlp(item, arrived, found);
+        }
         self.items += 1;
-        Ok(judge_link(item, self.items))
+        self.lanes.tlp(item, arrived, self.items, found);
+        Ok(())
+    }
+
+    /// A TLP that would be taken.
+    #[tactic(auto, unfolding(crate::specs::Verdicts::verdicts_at, crate::specs::Verdicts::blocked))]
+    fn taken_tlp(&mut self, item: &Item, arrived: Body, found: &mut Found) -> Result<(), Refused>
+        requires kind { item.now.kind ≡ ItemKind.Tlp }
+        requires lawful { IsLawful (entry item.now) }
+        requires arrived { arrived ≡ state_of (entry item.now) }
+        requires taken { place_of (lane_in item.now.dir self.old.lanes).next (sequence_number item.now.body.now) arrived ≡ Place.Taken }
+        requires few { self.old.items < 2 ^ 59 }
+        requires none { found.old.items ≡ [] }
+        ensures refused { (past : List Entry) → StandsFor self.old past → IfErr result (λ refused. blocked self.old.profile past (entry item.now) ≡ Some refused) }
+        ensures allowed { (past : List Entry) → StandsFor self.old past → OnOk result (blocked self.old.profile past (entry item.now) ≡ None) }
+        ensures verdicts { (past : List Entry) → StandsFor self.old past → OnOk result (found.new.items ≡ verdicts_at self.old.profile past (entry item.now)) }
+        ensures stands { (past : List Entry) → StandsFor self.old past → OnOk result (StandsFor self.new (entry item.now ∷ past)) }
+        ensures most { array_vec_len found.new ≤ 32 }
+        ensures profile { self.new.profile ≡ self.old.profile }
+        ensures items { OnOk result (self.new.items ≡ self.old.items + 1) }
+        ensures err { OnErr result (self.new ≡ self.old) }
+        ensures none { OnErr result (found.new ≡ found.old) }
+    {
+        if self.lanes.full(item.dir) {
+            return Err(Refused::Unacknowledged(self.profile.unacknowledged));
+        }
+        let packet = view(tlp_of(item.body));
+        if let Some(refused) = refusal(&self.pairs, &self.profile, item.dir, &packet) {
+            return Err(refused);
+        }
+        self.items += 1;
+        let at = self.items;
+        self.lanes.tlp(item, arrived, at, found);
+        spend(
+            &mut self.credits,
+            &self.profile,
+            item.dir,
+            &packet,
+            at,
+            found,
+        );
+        add_formation(&self.profile, item.dir, &packet, at, found);
+        transact(&mut self.pairs, &self.profile, item.dir, &packet, at, found);
+        Ok(())
+    }
+
+    /// A DLLP.
+    #[tactic(auto, unfolding(crate::specs::Verdicts::verdicts_at, crate::specs::Verdicts::blocked))]
+    fn dllp(&mut self, item: &Item, found: &mut Found)
+        requires kind { item.now.kind ≡ ItemKind.Dllp }
+        requires lawful { IsLawful (entry item.now) }
+        requires few { self.old.items < 2 ^ 59 }
+        requires none { found.old.items ≡ [] }
+        ensures allowed { (past : List Entry) → StandsFor self.old past → blocked self.old.profile past (entry item.now) ≡ None }
+        ensures verdicts { (past : List Entry) → StandsFor self.old past → found.new.items ≡ verdicts_at self.old.profile past (entry item.now) }
+        ensures stands { (past : List Entry) → StandsFor self.old past → StandsFor self.new (entry item.now ∷ past) }
+        ensures most { array_vec_len found.new ≤ 32 }
+        ensures profile { self.new.profile ≡ self.old.profile }
+        ensures items { self.new.items ≡ self.old.items + 1 }
+    {
+        self.items += 1;
+        let at = self.items;
+        let packet = dllp_of(item.body);
+        match packet {
+            Decoded::Ok(_) => {
+                self.lanes.dllp(item.dir, &packet, at, found);
+                hear(&mut self.credits, item.dir, &packet, at, found);
+            }
+            Decoded::BadCrc => {
+                add_if(true, Rule::L2, at, found);
+                hear(&mut self.credits, item.dir, &packet, at, found);
+            }
+            Decoded::Reserved => add_if(true, Rule::L3, at, found),
+        }
+    }
+
+    /// A link down begins a new span.
+    #[tactic(auto, unfolding(crate::specs::Verdicts::verdicts_at, crate::specs::Verdicts::blocked))]
+    fn link_down(&mut self)
+        requires few { self.old.items < 2 ^ 59 }
+        ensures allowed { (past : List Entry) (x : Entry) → x.kind ≡ ItemKind.LinkDown → blocked self.old.profile past x ≡ None }
+        ensures verdicts { (past : List Entry) (x : Entry) → x.kind ≡ ItemKind.LinkDown → verdicts_at self.old.profile past x ≡ [] }
+        ensures stands { (past : List Entry) (x : Entry) → StandsFor self.old past → x.kind ≡ ItemKind.LinkDown → StandsFor self.new (x ∷ past) }
+        ensures profile { self.new.profile ≡ self.old.profile }
+        ensures items { self.new.items ≡ self.old.items + 1 }
+    {
+        self.items += 1;
+        self.lanes.reset();
+        self.credits.reset();
+        self.pairs.reset();
     }
 }

@@ -2,9 +2,13 @@
 #![tactic(auto)]
 
 mod engine;
-mod link;
+mod flow;
+mod lanes;
+mod packet;
 mod refused;
 mod state;
+mod transactions;
+mod verdict;
 
 pub use engine::Engine;
 pub use pl_base::Body;

@@ -7,6 +7,7 @@ pub loop-place-init : goal.loop-place-init
 loop-place-init g c = record {
   bound = search rules;
   so_far = λ p before w r f. so_far_start before c.args.piece.now f;
+  none = search rules;
   reader = search rules;
   items = search rules;
   engine = search rules;
@@ -29,6 +30,7 @@ loop-place-preserved-in-End g c = record {
       piece_end (before ++ take c.loop-place.place c.args.piece.now) _ _ c.feed.new.self
       (part_on before c.args.piece.now _ c.loop-place.place c.in-End.used (take_rest c.args.piece.now c.loop-place.place)) so_far
       (c.in-End.ensures.answers _ so_far.reader_stands) c.in-End.ensures.becomes;
+  none = c.loop-place.invariant.none;
   reader = omega (arith, c.in-End.ensures.rises);
   items = omega arith;
   engine = omega arith;
@@ -52,6 +54,7 @@ loop-place-preserved g c = record {
       (part_on before c.args.piece.now _ c.loop-place.place c.in-Item.used (take_rest c.args.piece.now c.loop-place.place)) so_far
       (c.in-Item.ensures.answers _ so_far.reader_stands) c.judge_item.ensures.reader
       (λ past x h s i. rw c.in-Ok-None.field-0-is at (c.in-Ok-None.ensures.judged past x h s i));
+  none = c.in-Ok-None.ensures.none;
   reader = omega (arith, c.in-Item.ensures.rises, ap (λ s. s.place) c.judge_item.ensures.reader);
   items = omega (arith, c.in-Item.ensures.uses, c.judge_item.ensures.items);
   engine = omega (arith, c.in-Item.ensures.uses, c.judge_item.ensures.engine);

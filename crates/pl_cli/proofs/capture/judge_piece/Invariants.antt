@@ -1,4 +1,4 @@
-use Rattle.std.proofs.Common.{◌≡◌, ◌≤◌, ◌+◌, ◌*◌, ◌-◌, ◌++◌, ℕ, List, length, take, Option}
+use Rattle.std.proofs.Common.{◌≡◌, ◌≤◌, ◌+◌, ◌*◌, ◌-◌, ◌++◌, ℕ, List, [], length, take, Option}
 use Rattle.pl_profile.specs.declared.profile.Profile.{Profile}
 use Rattle.pl_cli.specs.Progress.{SoFar}
 use Rattle.pl_cli.proofs.capture.judge_piece.Given as goal
@@ -9,6 +9,7 @@ invariant-loop-place g l = record {
   so_far : (p : Profile) (before : List ℕ) (w : Option (List ℕ)) (r : Option ℕ) →
       SoFar p before l.initial.judging l.initial.engine w (g.O.Sink.written l.initial.out) r (g.O.Sink.room l.initial.out) →
       SoFar p (before ++ take l.place l.piece) l.judging l.engine w (g.O.Sink.written l.out) r (g.O.Sink.room l.out);
+  none : l.found.items ≡ [];
   reader : l.judging.reader.place ≤ l.initial.judging.reader.place + l.place;
   items : l.judging.items ≤ l.initial.judging.items + l.place;
   engine : l.engine.items ≤ l.initial.engine.items + l.place;
