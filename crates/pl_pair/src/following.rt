@@ -38,5 +38,6 @@ fn ends(opened: &OpenRequest, tlp: &Tlp) -> bool
         || !is_successful(tlp)
         || wanted == 0
         || u32::from(opened.got) + u32::from(tlp.length) >= u32::from(wanted)
-        || (opened.request.is_translation() && tlp.byte_count <= 4 * tlp.length)
+        || (opened.request.is_translation()
+            && u32::from(tlp.byte_count) <= 4 * u32::from(tlp.length))
 }
