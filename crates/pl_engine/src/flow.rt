@@ -31,7 +31,7 @@ pub(crate) fn spend(
 )
     requires profile { credits.old.profile ≡ profile.now }
     requires fits { FitsIfWhole (outcome packet.now) }
-    requires few { array_vec_len found.old ≤ 1 }
+    requires few { array_vec_len found.old ≤ 14 }
     ensures verdicts { (past : List LinkEvent) → StandsFor credits.old past →
         found.new.items ≡ found.old.items ++ broken_by (credit_verdicts profile.now past) (spending_of profile.now dir (if_whole (outcome packet.now)) at) }
     ensures stands { (past : List LinkEvent) → StandsFor credits.old past →
@@ -50,7 +50,7 @@ pub(crate) fn spend(
 /// A DLLP comes as number `at`: F2 to F8 and F11, behind what was found before.
 #[tactic(auto, unfolding(pl_credit::specs::Link::credit_verdicts))]
 pub(crate) fn hear(credits: &mut Credits, dir: Dir, packet: &Decoded, at: u64, found: &mut Found)
-    requires few { array_vec_len found.old ≤ 1 }
+    requires few { array_vec_len found.old ≤ 14 }
     ensures verdicts { (past : List LinkEvent) → StandsFor credits.old past →
         found.new.items ≡ found.old.items ++ broken_by (credit_verdicts credits.old.profile past) (grant_in dir packet.now at) }
     ensures stands { (past : List LinkEvent) → StandsFor credits.old past → StandsFor credits.new (with_event (grant_in dir packet.now at) past) }
