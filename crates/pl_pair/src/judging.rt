@@ -1,6 +1,6 @@
 //! What a completion breaks, held against its open request: C3 to C10.
 //! PCI Express Base Specification 5.0, chapter 2: completion rules, Read Completion Boundary, completion status.
-ghost use Rattle.std.specs.Prelude.{◌≡◌, ◌+◌, ◌<◌, ◌≤◌, ◌++◌, IsTrue, [], true, false};
+ghost use Rattle.std.specs.Prelude.{◌≡◌, ℕ, ◌+◌, ◌<◌, ◌≤◌, ◌++◌, [], IsTrue, true, false};
 ghost use Rattle.arrayvec.specs.ArrayVec.{array_vec_len};
 ghost use Rattle.pl_profile.specs.Ranges.{is_completion_boundary};
 ghost use Rattle.pl_tlp.specs.Fields.{fields};
@@ -8,7 +8,7 @@ ghost use Rattle.pl_tlp.specs.Fit.{Fits};
 ghost use Rattle.pl_tlp.specs.Kinds as tlps;
 ghost use Rattle.pl_pair.specs.Kinds as kinds;
 ghost use Rattle.pl_pair.specs.Pairs.{IsOpen};
-ghost use Rattle.pl_pair.specs.Judging.{held_if, counted_verdicts};
+ghost use Rattle.pl_pair.specs.Judging.{held, held_if};
 ghost use Rattle.pl_pair.specs.Rules as spec;
 
 use crate::kinds::{
@@ -30,9 +30,24 @@ pub(crate) fn boundary_of(profile: &Profile, dir: Dir) -> u8
     profile.rcb[dir.index()]
 }
 
+/// Which of the rules C3 to C10 a completion breaks.
+#[derive(Clone, Copy)]
+struct Broken {
+    c3: bool,
+    c4: bool,
+    c5: bool,
+    c6: bool,
+    c7: bool,
+    c8: bool,
+    c9: bool,
+    c10: bool,
+}
+
 /// Adds what the completion at position `at` breaks of C3 to C10, where `boundary` is the Read Completion Boundary of
 /// its direction.
-#[tactic(auto, unfolding(crate::specs::Rules::part_verdicts, crate::specs::Judging::counted_verdicts))]
+///
+/// Most completions break none, and then nothing is written.
+#[tactic(auto, unfolding(crate::specs::Rules::part_verdicts))]
 pub(crate) fn judge_part(found: &mut Found, boundary: u8, opened: &OpenRequest, tlp: &Tlp, at: u64)
     requires room { array_vec_len found.old ≤ 22 }
     requires boundary { IsTrue (is_completion_boundary boundary) }
@@ -41,22 +56,72 @@ pub(crate) fn judge_part(found: &mut Found, boundary: u8, opened: &OpenRequest, 
     ensures verdicts { found.new.items ≡ found.old.items ++ spec.part_verdicts boundary opened.now (fields tlp.now) at }
     ensures few { array_vec_len found.new ≤ array_vec_len found.old + 8 }
 {
-    let request = &opened.request;
-    hold(found, breaks_c3(request, tlp), Rule::C3, opened, at);
-    hold(found, breaks_c4(request, tlp), Rule::C4, opened, at);
-    hold(found, breaks_c5(opened, tlp), Rule::C5, opened, at);
-    judge_counts(found, boundary, opened, tlp, at);
-    hold(found, breaks_c10(request, tlp), Rule::C10, opened, at);
+    let broken = broken_by(boundary, opened, tlp);
+    if broken.any() {
+        broken.add_verdicts(found, opened, at);
+    }
+}
+
+impl Broken {
+    /// Whether it is at least one.
+    fn any(&self) -> bool
+        ensures { result ≡ false → (opened : OpenRequest) (at : ℕ) → held opened at self.now ≡ [] }
+    {
+        self.c3 || self.c4 || self.c5 || self.c6 || self.c7 || self.c8 || self.c9 || self.c10
+    }
+
+    /// Adds the verdicts on the completion at position `at`, which cite its open request and the first of its
+    /// completions.
+    fn add_verdicts(&self, found: &mut Found, opened: &OpenRequest, at: u64)
+        requires { array_vec_len found.old ≤ 22 }
+        ensures items { found.new.items ≡ found.old.items ++ held opened.now at self.now }
+        ensures few { array_vec_len found.new ≤ array_vec_len found.old + 8 }
+    {
+        hold(found, self.c3, Rule::C3, opened, at);
+        hold(found, self.c4, Rule::C4, opened, at);
+        hold(found, self.c5, Rule::C5, opened, at);
+        hold(found, self.c6, Rule::C6, opened, at);
+        hold(found, self.c7, Rule::C7, opened, at);
+        hold(found, self.c8, Rule::C8, opened, at);
+        hold(found, self.c9, Rule::C9, opened, at);
+        hold(found, self.c10, Rule::C10, opened, at);
+    }
 }
 
 /// Adds a verdict that cites the open request and the first of its completions, where the rule is broken.
-#[inline(always)]
 fn hold(found: &mut Found, broken: bool, rule: Rule, opened: &OpenRequest, at: u64)
     requires { array_vec_len found.old < 32 }
     ensures items { found.new.items ≡ found.old.items ++ held_if opened.now broken rule at }
     ensures most { array_vec_len found.new ≤ array_vec_len found.old + 1 }
 {
     add_if(found, broken, rule, at, Some(opened.at), opened.first_part);
+}
+
+/// Which rules a completion breaks.
+fn broken_by(boundary: u8, opened: &OpenRequest, tlp: &Tlp) -> Broken
+    requires boundary { IsTrue (is_completion_boundary boundary) }
+    requires fits { Fits (fields tlp.now) }
+    ensures c3 { result.c3 ≡ spec.breaks_C3 opened.now.request (fields tlp.now) }
+    ensures c4 { result.c4 ≡ spec.breaks_C4 opened.now.request (fields tlp.now) }
+    ensures c5 { result.c5 ≡ spec.breaks_C5 opened.now.request opened.now.got (fields tlp.now) }
+    ensures c6 { result.c6 ≡ spec.breaks_C6 opened.now.request opened.now.got (fields tlp.now) }
+    ensures c7 { result.c7 ≡ spec.breaks_C7 opened.now.request opened.now.got (fields tlp.now) }
+    ensures c8 { result.c8 ≡ spec.breaks_C8 opened.now.request (fields tlp.now) }
+    ensures c9 { result.c9 ≡ spec.breaks_C9 boundary opened.now.request opened.now.got (fields tlp.now) }
+    ensures c10 { result.c10 ≡ spec.breaks_C10 opened.now.request (fields tlp.now) }
+{
+    let request = &opened.request;
+    let counts = counts_broken_by(boundary, opened, tlp);
+    Broken {
+        c3: breaks_c3(request, tlp),
+        c4: breaks_c4(request, tlp),
+        c5: breaks_c5(opened, tlp),
+        c6: counts.c6,
+        c7: counts.c7,
+        c8: breaks_c8(request, tlp),
+        c9: counts.c9,
+        c10: breaks_c10(request, tlp),
+    }
 }
 
 /// C3: another Traffic Class, or other attributes Attr[1:0], than the request.
@@ -96,65 +161,60 @@ fn reached(opened: &OpenRequest, tlp: &Tlp) -> u32
     u32::from(opened.got) + u32::from(tlp.length)
 }
 
-/// Adds what it breaks of C6 to C9. Those that can't apply to its status and its request aren't tried.
-#[tactic(auto, unfolding(crate::specs::Judging::counted_verdicts))]
-fn judge_counts(found: &mut Found, boundary: u8, opened: &OpenRequest, tlp: &Tlp, at: u64)
+/// Which of the rules C6, C7 and C9 a completion breaks, which look at what is counted.
+#[derive(Clone, Copy)]
+struct Counts {
+    c6: bool,
+    c7: bool,
+    c9: bool,
+}
+
+/// None of them.
+const NONE: Counts = Counts {
+    c6: false,
+    c7: false,
+    c9: false,
+};
+
+/// Which of C6, C7 and C9 it breaks. Those that can't apply to its status and its request aren't tried.
+fn counts_broken_by(boundary: u8, opened: &OpenRequest, tlp: &Tlp) -> Counts
     requires boundary { IsTrue (is_completion_boundary boundary) }
     requires fits { Fits (fields tlp.now) }
-    requires room { array_vec_len found.old ≤ 28 }
-    ensures items { found.new.items ≡ found.old.items ++ counted_verdicts boundary opened.now (fields tlp.now) at }
-    ensures most { array_vec_len found.new ≤ array_vec_len found.old + 3 }
+    ensures c6 { result.c6 ≡ spec.breaks_C6 opened.now.request opened.now.got (fields tlp.now) }
+    ensures c7 { result.c7 ≡ spec.breaks_C7 opened.now.request opened.now.got (fields tlp.now) }
+    ensures c9 { result.c9 ≡ spec.breaks_C9 boundary opened.now.request opened.now.got (fields tlp.now) }
 {
-    if !is_counted(&opened.request, tlp) {
-        hold(found, breaks_c8(&opened.request, tlp), Rule::C8, opened, at);
-        return;
+    let request = &opened.request;
+    if !is_counted(request, tlp) {
+        return NONE;
     }
-    match opened.request.kind {
-        Kind::MRd | Kind::MRdLk => judge_read(found, boundary, opened, tlp, at),
-        Kind::IORd | Kind::IOWr | Kind::CfgRd0 | Kind::CfgWr0 | Kind::CfgRd1 | Kind::CfgWr1 => {
-            judge_access(found, boundary, opened, tlp, at)
+    match request.kind {
+        Kind::MRd | Kind::MRdLk => {
+            if !has_data(tlp) {
+                return NONE;
+            }
+            Counts {
+                c6: !tlp.bcm && u32::from(tlp.byte_count) != request.remaining(opened.got),
+                c7: u32::from(tlp.lower) != request.lower_address(opened.got),
+                c9: ends_amiss(boundary, opened, tlp),
+            }
         }
-        Kind::FetchAdd | Kind::Swap | Kind::Cas => judge_atomic(found, boundary, opened, tlp, at),
+        Kind::IORd | Kind::IOWr | Kind::CfgRd0 | Kind::CfgWr0 | Kind::CfgRd1 | Kind::CfgWr1 => {
+            Counts {
+                c6: !tlp.bcm && tlp.byte_count != 4,
+                c7: tlp.lower != 0,
+                c9: false,
+            }
+        }
+        Kind::FetchAdd | Kind::Swap | Kind::Cas => Counts {
+            c6: !tlp.bcm && u32::from(tlp.byte_count) != 4 * u32::from(request.wanted()),
+            c7: false,
+            c9: false,
+        },
         // posted requests and completions are never open
-        Kind::MWr | Kind::Msg | Kind::MsgD => {}
-        Kind::Cpl | Kind::CplD | Kind::CplLk | Kind::CplDLk => {}
+        Kind::MWr | Kind::Msg | Kind::MsgD => NONE,
+        Kind::Cpl | Kind::CplD | Kind::CplLk | Kind::CplDLk => NONE,
     }
-}
-
-/// C8: Configuration Request Retry Status for another request.
-fn breaks_c8(request: &Request, tlp: &Tlp) -> bool
-    ensures { result ≡ spec.breaks_C8 request.now (fields tlp.now) }
-{
-    tlp.status == 2 && !is_configuration(request.kind)
-}
-
-/// Adds what it breaks of C6, C7 and C9, where its request is a memory read.
-#[tactic(auto, unfolding(crate::specs::Judging::counted_verdicts))]
-fn judge_read(found: &mut Found, boundary: u8, opened: &OpenRequest, tlp: &Tlp, at: u64)
-    requires counted { spec.is_counted opened.now.request (fields tlp.now) ≡ true }
-    requires read { kinds.is_memory_read opened.now.request.kind ≡ true }
-    requires not_access { kinds.is_io_or_configuration opened.now.request.kind ≡ false }
-    requires not_atomic { kinds.is_atomic opened.now.request.kind ≡ false }
-    requires boundary { IsTrue (is_completion_boundary boundary) }
-    requires fits { Fits (fields tlp.now) }
-    requires room { array_vec_len found.old ≤ 28 }
-    ensures items { found.new.items ≡ found.old.items ++ counted_verdicts boundary opened.now (fields tlp.now) at }
-    ensures most { array_vec_len found.new ≤ array_vec_len found.old + 3 }
-{
-    if !has_data(tlp) {
-        return;
-    }
-    let miscounted = !tlp.bcm && u32::from(tlp.byte_count) != opened.request.remaining(opened.got);
-    hold(found, miscounted, Rule::C6, opened, at);
-    let misplaced = u32::from(tlp.lower) != opened.request.lower_address(opened.got);
-    hold(found, misplaced, Rule::C7, opened, at);
-    hold(
-        found,
-        ends_amiss(boundary, opened, tlp),
-        Rule::C9,
-        opened,
-        at,
-    );
 }
 
 /// Whether a completion with data of a memory read isn't the last one, and ends elsewhere than at a multiple of the
@@ -174,40 +234,11 @@ fn ends_amiss(boundary: u8, opened: &OpenRequest, tlp: &Tlp) -> bool
     (start + 4 * reached) % u32::from(boundary) != 0
 }
 
-/// Adds what it breaks of C6 and C7, where its request accesses IO or configuration space.
-#[tactic(auto, unfolding(crate::specs::Judging::counted_verdicts))]
-fn judge_access(found: &mut Found, boundary: u8, opened: &OpenRequest, tlp: &Tlp, at: u64)
-    requires counted { spec.is_counted opened.now.request (fields tlp.now) ≡ true }
-    requires access { kinds.is_io_or_configuration opened.now.request.kind ≡ true }
-    requires not_read { kinds.is_memory_read opened.now.request.kind ≡ false }
-    requires not_atomic { kinds.is_atomic opened.now.request.kind ≡ false }
-    requires room { array_vec_len found.old ≤ 28 }
-    ensures items { found.new.items ≡ found.old.items ++ counted_verdicts boundary opened.now (fields tlp.now) at }
-    ensures most { array_vec_len found.new ≤ array_vec_len found.old + 3 }
+/// C8: Configuration Request Retry Status for another request.
+fn breaks_c8(request: &Request, tlp: &Tlp) -> bool
+    ensures { result ≡ spec.breaks_C8 request.now (fields tlp.now) }
 {
-    hold(found, !tlp.bcm && tlp.byte_count != 4, Rule::C6, opened, at);
-    hold(found, tlp.lower != 0, Rule::C7, opened, at);
-}
-
-/// Adds what it breaks of C6, where its request is an AtomicOp.
-#[tactic(auto, unfolding(crate::specs::Judging::counted_verdicts))]
-fn judge_atomic(found: &mut Found, boundary: u8, opened: &OpenRequest, tlp: &Tlp, at: u64)
-    requires counted { spec.is_counted opened.now.request (fields tlp.now) ≡ true }
-    requires atomic { kinds.is_atomic opened.now.request.kind ≡ true }
-    requires not_read { kinds.is_memory_read opened.now.request.kind ≡ false }
-    requires not_access { kinds.is_io_or_configuration opened.now.request.kind ≡ false }
-    requires room { array_vec_len found.old ≤ 28 }
-    ensures items { found.new.items ≡ found.old.items ++ counted_verdicts boundary opened.now (fields tlp.now) at }
-    ensures most { array_vec_len found.new ≤ array_vec_len found.old + 3 }
-{
-    let wanted = 4 * u32::from(opened.request.wanted());
-    hold(
-        found,
-        !tlp.bcm && u32::from(tlp.byte_count) != wanted,
-        Rule::C6,
-        opened,
-        at,
-    );
+    tlp.status == 2 && !is_configuration(request.kind)
 }
 
 /// C10: a completion of a locked read for another request, or the other way round.

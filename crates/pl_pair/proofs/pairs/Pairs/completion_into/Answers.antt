@@ -1,7 +1,5 @@
 use Rattle.std.proofs.Common.{None, Some, ap, ◌∙◌, sym, subst}
-use Rattle.pl_index.specs.Table.{entries}
 use Rattle.pl_tlp.specs.Fields.{fields}
-use Rattle.pl_pair.specs.declared.request.OpenRequest.{OpenRequest}
 use Rattle.pl_pair.specs.Pairs.{IsInRange, IsOpen, key_of}
 use Rattle.pl_pair.proofs.Steps.{is-some, open-step, stands-ended, stands-left_open, stands-none, step-put, step-take}
 use Rattle.pl_pair.proofs.pairs.Pairs.completion_into.Goals as goal

@@ -1,7 +1,6 @@
 use Rattle.std.proofs.Common.{Some, ap, ◌∙◌, sym, subst}
 use Rattle.pl_index.specs.Table.{entries}
 use Rattle.pl_tlp.specs.Fields.{fields}
-use Rattle.pl_pair.specs.declared.request.OpenRequest.{OpenRequest}
 use Rattle.pl_pair.specs.History.{request_id}
 use Rattle.pl_pair.specs.Pairs.{IsInRange, IsOpen, Kept, StandsFor, key_of}
 use Rattle.pl_pair.proofs.Steps.{is-some, open-step, opened-is, opened_by, put-request, stands-request, step-put}
