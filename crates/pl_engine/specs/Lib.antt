@@ -3,5 +3,7 @@ pub mod Packets
 pub mod Link
 pub mod Events
 pub mod Verdicts
+pub mod Tally
+pub mod Counts
 pub mod Lanes
 pub mod Engine

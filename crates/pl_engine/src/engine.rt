@@ -5,6 +5,7 @@ ghost use Rattle.pl_capture.specs.Entry.{Entry, view as entry, IsLawful};
 ghost use Rattle.pl_pair.specs.Pairs.{room_of};
 ghost use Rattle.pl_pair.specs.History.{outstanding};
 ghost use Rattle.pl_seq.specs.History.{place_of, unacknowledged};
+ghost use Rattle.pl_engine.specs.Counts.{ArrivalsStandFor, PeaksStandFor, all_of};
 ghost use Rattle.pl_engine.specs.Events.{lane_events, pair_events};
 ghost use Rattle.pl_seq.specs.Lane.{latest_position};
 ghost use Rattle.pl_engine.specs.Lanes.{lane_in};
@@ -14,8 +15,10 @@ ghost use Rattle.pl_engine.specs.State.{state_of};
 use crate::flow::{hear, spend};
 use crate::lanes::Lanes;
 use crate::packet::{dllp_of, tlp_of};
+use crate::peaks::Peaks;
 use crate::refused::Refused;
 use crate::state::body;
+use crate::traffic::Arrivals;
 use crate::transactions::{refusal, transact};
 use crate::verdict::add_if;
 use pl_base::{Body, Dir, Found, Rule};
@@ -42,16 +45,19 @@ pub struct Engine {
     lanes: Lanes,
     credits: Credits,
     pairs: Pairs,
+    arrivals: Arrivals,
+    peaks: Peaks,
     ghost down_room: { lanes.down.room ≡ profile.unacknowledged },
     ghost up_room: { lanes.up.room ≡ profile.unacknowledged },
     ghost down_rises: { latest_position lanes.down.latest_tlp ≤ items },
     ghost up_rises: { latest_position lanes.up.latest_tlp ≤ items },
     ghost credits_profile: { credits.profile ≡ profile },
     ghost pairs_room: { room_of pairs ≡ profile.outstanding },
+    ghost came: { all_of arrivals ≤ items },
 }
 
 impl Engine {
-    ghost use Rattle.pl_engine.specs.Engine.{StandsFor};
+    ghost use Rattle.pl_engine.specs.Engine.{RulesStandFor, StandsFor};
     ghost use Rattle.pl_engine.specs.Verdicts.{blocked, verdicts_at};
 
     /// An engine that has judged nothing. It takes all the memory that it ever uses.
@@ -72,6 +78,8 @@ impl Engine {
             lanes,
             credits: Credits::new(&profile),
             pairs,
+            arrivals: Arrivals::new(),
+            peaks: Peaks::new(),
         })
     }
 
@@ -117,6 +125,39 @@ impl Engine {
         ensures err { OnErr result (self.new ≡ self.old) }
         ensures none { OnErr result (found.new ≡ found.old) }
     {
+        self.judge(item, found)?;
+        self.reach();
+        Ok(())
+    }
+
+    /// How many things it keeps of the items, however many these were: the open requests, the unacknowledged TLPs of
+    /// both directions, and 512 for the latest items, the initial credits, the grants and the marks, which are never
+    /// more.
+    pub fn kept(&self) -> u64
+        ensures { (past : List Entry) → StandsFor self.now past →
+            result ≡ outstanding (pair_events past) + (length (unacknowledged (lane_events Dir.Down past)) + length (unacknowledged (lane_events Dir.Up past))) + 512 }
+    {
+        u64::from(self.pairs.outstanding()) + self.lanes.unacknowledged() + NOTES
+    }
+
+    /// Judges an item, and counts it.
+    fn judge(&mut self, item: &Item, found: &mut Found) -> Result<(), Refused>
+        requires lawful { IsLawful (entry item.now) }
+        requires few { self.old.items < 2 ^ 59 }
+        requires none { found.old.items ≡ [] }
+        ensures refused { (past : List Entry) → RulesStandFor self.old past → IfErr result (λ refused. blocked self.old.profile past (entry item.now) ≡ Some refused) }
+        ensures allowed { (past : List Entry) → RulesStandFor self.old past → OnOk result (blocked self.old.profile past (entry item.now) ≡ None) }
+        ensures verdicts { (past : List Entry) → RulesStandFor self.old past → OnOk result (found.new.items ≡ verdicts_at self.old.profile past (entry item.now)) }
+        ensures stands { (past : List Entry) → RulesStandFor self.old past → OnOk result (RulesStandFor self.new (entry item.now ∷ past)) }
+        ensures arrivals { (past : List Entry) → RulesStandFor self.old past → ArrivalsStandFor self.old.arrivals past →
+            OnOk result (ArrivalsStandFor self.new.arrivals (entry item.now ∷ past)) }
+        ensures peaks { self.new.peaks ≡ self.old.peaks }
+        ensures most { array_vec_len found.new ≤ 32 }
+        ensures profile { self.new.profile ≡ self.old.profile }
+        ensures items { OnOk result (self.new.items ≡ self.old.items + 1) }
+        ensures err { OnErr result (self.new ≡ self.old) }
+        ensures none { OnErr result (found.new ≡ found.old) }
+    {
         match item.kind {
             ItemKind::Tlp => self.tlp(item, found),
             ItemKind::Dllp => {
@@ -130,27 +171,33 @@ impl Engine {
         }
     }
 
-    /// How many things it keeps of the items, however many these were: the open requests, the unacknowledged TLPs of
-    /// both directions, and 512 for the latest items, the initial credits, the grants and the marks, which are never
-    /// more.
-    pub fn kept(&self) -> u64
-        ensures { (past : List Entry) → StandsFor self.now past →
-            result ≡ outstanding (pair_events past) + (length (unacknowledged (lane_events Dir.Down past)) + length (unacknowledged (lane_events Dir.Up past))) + 512 }
+    /// Remembers the most that is kept, behind an item.
+    fn reach(&mut self)
+        ensures stands { (past : List Entry) (x : Entry) → RulesStandFor self.old (x ∷ past) → ArrivalsStandFor self.old.arrivals (x ∷ past) →
+            PeaksStandFor self.old.peaks past → StandsFor self.new (x ∷ past) }
+        ensures profile { self.new.profile ≡ self.old.profile }
+        ensures items { self.new.items ≡ self.old.items }
     {
-        u64::from(self.pairs.outstanding()) + self.lanes.unacknowledged() + NOTES
+        self.peaks.rise(
+            self.pairs.outstanding(),
+            self.lanes.unacknowledged_of(Dir::Down),
+            self.lanes.unacknowledged_of(Dir::Up),
+        );
     }
 
     /// A TLP, however it arrived.
-    #[tactic(auto, unfolding(crate::specs::Verdicts::verdicts_at, crate::specs::Verdicts::blocked))]
     fn tlp(&mut self, item: &Item, found: &mut Found) -> Result<(), Refused>
         requires kind { item.now.kind ≡ ItemKind.Tlp }
         requires lawful { IsLawful (entry item.now) }
         requires few { self.old.items < 2 ^ 59 }
         requires none { found.old.items ≡ [] }
-        ensures refused { (past : List Entry) → StandsFor self.old past → IfErr result (λ refused. blocked self.old.profile past (entry item.now) ≡ Some refused) }
-        ensures allowed { (past : List Entry) → StandsFor self.old past → OnOk result (blocked self.old.profile past (entry item.now) ≡ None) }
-        ensures verdicts { (past : List Entry) → StandsFor self.old past → OnOk result (found.new.items ≡ verdicts_at self.old.profile past (entry item.now)) }
-        ensures stands { (past : List Entry) → StandsFor self.old past → OnOk result (StandsFor self.new (entry item.now ∷ past)) }
+        ensures refused { (past : List Entry) → RulesStandFor self.old past → IfErr result (λ refused. blocked self.old.profile past (entry item.now) ≡ Some refused) }
+        ensures allowed { (past : List Entry) → RulesStandFor self.old past → OnOk result (blocked self.old.profile past (entry item.now) ≡ None) }
+        ensures verdicts { (past : List Entry) → RulesStandFor self.old past → OnOk result (found.new.items ≡ verdicts_at self.old.profile past (entry item.now)) }
+        ensures stands { (past : List Entry) → RulesStandFor self.old past → OnOk result (RulesStandFor self.new (entry item.now ∷ past)) }
+        ensures arrivals { (past : List Entry) → RulesStandFor self.old past → ArrivalsStandFor self.old.arrivals past →
+            OnOk result (ArrivalsStandFor self.new.arrivals (entry item.now ∷ past)) }
+        ensures peaks { self.new.peaks ≡ self.old.peaks }
         ensures most { array_vec_len found.new ≤ 32 }
         ensures profile { self.new.profile ≡ self.old.profile }
         ensures items { OnOk result (self.new.items ≡ self.old.items + 1) }
@@ -158,7 +205,40 @@ impl Engine {
         ensures none { OnErr result (found.new ≡ found.old) }
     {
         let arrived = body(item);
-        if self.lanes.place(item, arrived) == Place::Taken {
+        let place = self.lanes.place(item, arrived);
+        self.judge_tlp(item, arrived, place, found)?;
+        self.arrivals.tlp(item.dir, arrived, place);
+        Ok(())
+    }
+
+    /// Judges a TLP that arrived like this, and stands here.
+    #[tactic(auto, unfolding(crate::specs::Verdicts::verdicts_at, crate::specs::Verdicts::blocked))]
+    fn judge_tlp(
+        &mut self,
+        item: &Item,
+        arrived: Body,
+        place: Place,
+        found: &mut Found,
+    ) -> Result<(), Refused>
+        requires kind { item.now.kind ≡ ItemKind.Tlp }
+        requires lawful { IsLawful (entry item.now) }
+        requires arrived { arrived ≡ state_of (entry item.now) }
+        requires place { place_of (lane_in item.now.dir self.old.lanes).next (sequence_number item.now.body.now) arrived ≡ place }
+        requires few { self.old.items < 2 ^ 59 }
+        requires none { found.old.items ≡ [] }
+        ensures refused { (past : List Entry) → RulesStandFor self.old past → IfErr result (λ refused. blocked self.old.profile past (entry item.now) ≡ Some refused) }
+        ensures allowed { (past : List Entry) → RulesStandFor self.old past → OnOk result (blocked self.old.profile past (entry item.now) ≡ None) }
+        ensures verdicts { (past : List Entry) → RulesStandFor self.old past → OnOk result (found.new.items ≡ verdicts_at self.old.profile past (entry item.now)) }
+        ensures stands { (past : List Entry) → RulesStandFor self.old past → OnOk result (RulesStandFor self.new (entry item.now ∷ past)) }
+        ensures arrivals { self.new.arrivals ≡ self.old.arrivals }
+        ensures peaks { self.new.peaks ≡ self.old.peaks }
+        ensures most { array_vec_len found.new ≤ 32 }
+        ensures profile { self.new.profile ≡ self.old.profile }
+        ensures items { OnOk result (self.new.items ≡ self.old.items + 1) }
+        ensures err { OnErr result (self.new ≡ self.old) }
+        ensures none { OnErr result (found.new ≡ found.old) }
+    {
+        if place == Place::Taken {
             return self.taken_tlp(item, arrived, found);
         }
         self.items += 1;
@@ -175,10 +255,12 @@ impl Engine {
         requires taken { place_of (lane_in item.now.dir self.old.lanes).next (sequence_number item.now.body.now) arrived ≡ Place.Taken }
         requires few { self.old.items < 2 ^ 59 }
         requires none { found.old.items ≡ [] }
-        ensures refused { (past : List Entry) → StandsFor self.old past → IfErr result (λ refused. blocked self.old.profile past (entry item.now) ≡ Some refused) }
-        ensures allowed { (past : List Entry) → StandsFor self.old past → OnOk result (blocked self.old.profile past (entry item.now) ≡ None) }
-        ensures verdicts { (past : List Entry) → StandsFor self.old past → OnOk result (found.new.items ≡ verdicts_at self.old.profile past (entry item.now)) }
-        ensures stands { (past : List Entry) → StandsFor self.old past → OnOk result (StandsFor self.new (entry item.now ∷ past)) }
+        ensures refused { (past : List Entry) → RulesStandFor self.old past → IfErr result (λ refused. blocked self.old.profile past (entry item.now) ≡ Some refused) }
+        ensures allowed { (past : List Entry) → RulesStandFor self.old past → OnOk result (blocked self.old.profile past (entry item.now) ≡ None) }
+        ensures verdicts { (past : List Entry) → RulesStandFor self.old past → OnOk result (found.new.items ≡ verdicts_at self.old.profile past (entry item.now)) }
+        ensures stands { (past : List Entry) → RulesStandFor self.old past → OnOk result (RulesStandFor self.new (entry item.now ∷ past)) }
+        ensures arrivals { self.new.arrivals ≡ self.old.arrivals }
+        ensures peaks { self.new.peaks ≡ self.old.peaks }
         ensures most { array_vec_len found.new ≤ 32 }
         ensures profile { self.new.profile ≡ self.old.profile }
         ensures items { OnOk result (self.new.items ≡ self.old.items + 1) }
@@ -215,14 +297,17 @@ impl Engine {
         requires lawful { IsLawful (entry item.now) }
         requires few { self.old.items < 2 ^ 59 }
         requires none { found.old.items ≡ [] }
-        ensures allowed { (past : List Entry) → StandsFor self.old past → blocked self.old.profile past (entry item.now) ≡ None }
-        ensures verdicts { (past : List Entry) → StandsFor self.old past → found.new.items ≡ verdicts_at self.old.profile past (entry item.now) }
-        ensures stands { (past : List Entry) → StandsFor self.old past → StandsFor self.new (entry item.now ∷ past) }
+        ensures allowed { (past : List Entry) → RulesStandFor self.old past → blocked self.old.profile past (entry item.now) ≡ None }
+        ensures verdicts { (past : List Entry) → RulesStandFor self.old past → found.new.items ≡ verdicts_at self.old.profile past (entry item.now) }
+        ensures stands { (past : List Entry) → RulesStandFor self.old past → RulesStandFor self.new (entry item.now ∷ past) }
+        ensures arrivals { (past : List Entry) → ArrivalsStandFor self.old.arrivals past → ArrivalsStandFor self.new.arrivals (entry item.now ∷ past) }
+        ensures peaks { self.new.peaks ≡ self.old.peaks }
         ensures most { array_vec_len found.new ≤ 32 }
         ensures profile { self.new.profile ≡ self.old.profile }
         ensures items { self.new.items ≡ self.old.items + 1 }
     {
         self.items += 1;
+        self.arrivals.dllp(item.dir);
         let at = self.items;
         let packet = dllp_of(item.body);
         match packet {
@@ -244,11 +329,14 @@ impl Engine {
         requires few { self.old.items < 2 ^ 59 }
         ensures allowed { (past : List Entry) (x : Entry) → x.kind ≡ ItemKind.LinkDown → blocked self.old.profile past x ≡ None }
         ensures verdicts { (past : List Entry) (x : Entry) → x.kind ≡ ItemKind.LinkDown → verdicts_at self.old.profile past x ≡ [] }
-        ensures stands { (past : List Entry) (x : Entry) → StandsFor self.old past → x.kind ≡ ItemKind.LinkDown → StandsFor self.new (x ∷ past) }
+        ensures stands { (past : List Entry) (x : Entry) → RulesStandFor self.old past → x.kind ≡ ItemKind.LinkDown → RulesStandFor self.new (x ∷ past) }
+        ensures arrivals { (past : List Entry) (x : Entry) → ArrivalsStandFor self.old.arrivals past → x.kind ≡ ItemKind.LinkDown → ArrivalsStandFor self.new.arrivals (x ∷ past) }
+        ensures peaks { self.new.peaks ≡ self.old.peaks }
         ensures profile { self.new.profile ≡ self.old.profile }
         ensures items { self.new.items ≡ self.old.items + 1 }
     {
         self.items += 1;
+        self.arrivals.link_down();
         self.lanes.reset();
         self.credits.reset();
         self.pairs.reset();

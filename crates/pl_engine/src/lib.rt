@@ -5,8 +5,10 @@ mod engine;
 mod flow;
 mod lanes;
 mod packet;
+mod peaks;
 mod refused;
 mod state;
+mod traffic;
 mod transactions;
 mod verdict;
 
