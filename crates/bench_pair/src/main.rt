@@ -5,11 +5,12 @@
 #![tactic(auto)]
 
 ghost use Rattle.std.specs.Prelude.{◌≡◌, ◌<◌, ◌≤◌, true};
+ghost use Rattle.arrayvec.specs.ArrayVec.{array_vec_len};
 ghost use Rattle.pl_tlp.specs.Fields.{fields};
 ghost use Rattle.pl_tlp.specs.Fit.{Fits};
 ghost use Rattle.pl_pair.specs.Kinds as kinds;
 
-use pl_base::Dir;
+use pl_base::{Dir, Found};
 use pl_pair::Pairs;
 use pl_profile::Profile;
 use pl_tlp::{Kind, Tlp};
@@ -107,27 +108,52 @@ fn completion(number: u32) -> Tlp<'static>
 
 /// Makes so many requests, and then one more each time before the oldest is answered: how many items break a rule.
 fn traffic(pairs: &mut Pairs, profile: &Profile, open: u32, requests: u32) -> u64 {
+    let mut found = Found::new();
     let mut broken = 0;
     for number in 0..open {
-        broken += make(pairs, number, u64::from(number));
+        broken += make(pairs, number, u64::from(number), &mut found);
     }
     for number in 0..requests {
         let next = number.wrapping_add(open);
         let at = u64::from(next) * 2;
-        broken += make(pairs, next, at);
-        let found = pairs.completion(profile, Dir::Down, &completion(number), at + 1);
-        broken += u64::from(!found.is_empty());
+        broken += make(pairs, next, at, &mut found);
+        broken += answer(pairs, profile, number, at + 1, &mut found);
     }
     broken
 }
 
 /// A request, if there is room for it: 1 where it breaks a rule.
-fn make(pairs: &mut Pairs, number: u32, at: u64) -> u64
-    ensures { result ≤ 1 }
+fn make(pairs: &mut Pairs, number: u32, at: u64, found: &mut Found) -> u64
+    requires { array_vec_len found.old ≡ 0 }
+    ensures small { result ≤ 1 }
+    ensures empty { array_vec_len found.new ≡ 0 }
 {
     let request = read(number);
     if pairs.full_for(Dir::Up, &request) {
         return 1;
     }
-    u64::from(!pairs.request(Dir::Up, &request, at).is_empty())
+    pairs.request_into(Dir::Up, &request, at, found);
+    is_broken(found)
+}
+
+/// The completion of a request: 1 where it breaks a rule.
+fn answer(pairs: &mut Pairs, profile: &Profile, number: u32, at: u64, found: &mut Found) -> u64
+    requires { array_vec_len found.old ≡ 0 }
+    ensures small { result ≤ 1 }
+    ensures empty { array_vec_len found.new ≡ 0 }
+{
+    pairs.completion_into(profile, Dir::Down, &completion(number), at, found);
+    is_broken(found)
+}
+
+/// 1 where there are verdicts, which are let go.
+fn is_broken(found: &mut Found) -> u64
+    ensures small { result ≤ 1 }
+    ensures empty { array_vec_len found.new ≡ 0 }
+{
+    if found.is_empty() {
+        return 0;
+    }
+    found.clear();
+    1
 }
