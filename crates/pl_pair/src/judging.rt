@@ -1,13 +1,12 @@
 //! What a completion breaks, held against its open request: C3 to C10.
 //! PCI Express Base Specification 5.0, chapter 2: completion rules, Read Completion Boundary, completion status.
-ghost use Rattle.std.specs.Prelude.{◌≡◌, ℕ, ◌+◌, ◌<◌, ◌≤◌, ◌++◌, [], IsTrue, true, false};
+ghost use Rattle.std.specs.Prelude.{◌≡◌, ◌≢◌, ℕ, ◌+◌, ◌<◌, ◌≤◌, ◌++◌, [], IsTrue, true, false};
 ghost use Rattle.arrayvec.specs.ArrayVec.{array_vec_len};
 ghost use Rattle.pl_profile.specs.Ranges.{is_completion_boundary};
 ghost use Rattle.pl_tlp.specs.Fields.{fields};
 ghost use Rattle.pl_tlp.specs.Fit.{Fits};
 ghost use Rattle.pl_tlp.specs.Kinds as tlps;
 ghost use Rattle.pl_pair.specs.Kinds as kinds;
-ghost use Rattle.pl_pair.specs.Pairs.{IsOpen};
 ghost use Rattle.pl_pair.specs.Judging.{held, held_if};
 ghost use Rattle.pl_pair.specs.Rules as spec;
 
@@ -51,7 +50,6 @@ struct Broken {
 pub(crate) fn judge_part(found: &mut Found, boundary: u8, opened: &OpenRequest, tlp: &Tlp, at: u64)
     requires room { array_vec_len found.old ≤ 22 }
     requires boundary { IsTrue (is_completion_boundary boundary) }
-    requires waits { IsOpen opened.now }
     requires fits { Fits (fields tlp.now) }
     ensures verdicts { found.new.items ≡ found.old.items ++ spec.part_verdicts boundary opened.now (fields tlp.now) at }
     ensures few { array_vec_len found.new ≤ array_vec_len found.old + 8 }
@@ -65,7 +63,8 @@ pub(crate) fn judge_part(found: &mut Found, boundary: u8, opened: &OpenRequest, 
 impl Broken {
     /// Whether it is at least one.
     fn any(&self) -> bool
-        ensures { result ≡ false → (opened : OpenRequest) (at : ℕ) → held opened at self.now ≡ [] }
+        ensures some { result ≡ true → (opened : OpenRequest) (at : ℕ) → held opened at self.now ≢ [] }
+        ensures none { result ≡ false → (opened : OpenRequest) (at : ℕ) → held opened at self.now ≡ [] }
     {
         self.c3 || self.c4 || self.c5 || self.c6 || self.c7 || self.c8 || self.c9 || self.c10
     }

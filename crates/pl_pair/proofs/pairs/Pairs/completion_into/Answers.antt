@@ -4,9 +4,6 @@ use Rattle.pl_pair.specs.Pairs.{IsInRange, IsOpen, key_of}
 use Rattle.pl_pair.proofs.Steps.{is-some, open-step, stands-ended, stands-left_open, stands-none, step-put, step-take}
 use Rattle.pl_pair.proofs.pairs.Pairs.completion_into.Goals as goal
 
-pub judge_part-requires-clause-waits : goal.judge_part-requires-clause-waits
-judge_part-requires-clause-waits c = c.self.invariant.1 _ _ (sym c.in-Some.ensures)
-
 pub after_part-requires-clause-open : goal.after_part-requires-clause-open
 after_part-requires-clause-open c = c.self.invariant.1 _ _ (sym c.in-Some.ensures)
 
