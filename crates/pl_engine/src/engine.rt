@@ -1,17 +1,18 @@
 //! The engine itself.
-ghost use Rattle.std.specs.Prelude.{◌≡◌, ◌≢◌, ◌+◌, ◌<◌, ◌≤◌, ◌∷◌, ◌++◌, ◌^◌, [], List, IfOk, IfErr, OnOk, OnErr, Some, None, length};
+ghost use Rattle.std.specs.Prelude.{◌≡◌, ◌≢◌, ◌+◌, ◌*◌, ◌<◌, ◌≤◌, ◌∷◌, ◌++◌, ◌^◌, [], List, IfOk, IfErr, OnOk, OnErr, Some, None, length};
 ghost use Rattle.arrayvec.specs.ArrayVec.{array_vec_len};
 ghost use Rattle.pl_capture.specs.Entry.{Entry, view as entry, IsLawful};
 ghost use Rattle.pl_pair.specs.Pairs.{room_of};
 ghost use Rattle.pl_pair.specs.History.{outstanding};
 ghost use Rattle.pl_seq.specs.History.{place_of, unacknowledged};
-ghost use Rattle.pl_engine.specs.Counts.{ArrivalsStandFor, PeaksStandFor, all_of};
+ghost use Rattle.pl_engine.specs.Counts.{ArrivalsStandFor, BrokenStandsFor, PeaksStandFor, all_of};
 ghost use Rattle.pl_engine.specs.Events.{lane_events, pair_events};
 ghost use Rattle.pl_seq.specs.Lane.{latest_position};
 ghost use Rattle.pl_engine.specs.Lanes.{lane_in};
 ghost use Rattle.pl_engine.specs.Packets.{sequence_number};
 ghost use Rattle.pl_engine.specs.State.{state_of};
 
+use crate::broken::Broken;
 use crate::flow::{hear, spend};
 use crate::lanes::Lanes;
 use crate::packet::{dllp_of, tlp_of};
@@ -21,7 +22,7 @@ use crate::state::body;
 use crate::traffic::Arrivals;
 use crate::transactions::{refusal, transact};
 use crate::verdict::add_if;
-use pl_base::{Body, Dir, Found, Rule};
+use pl_base::{Body, Dir, Found, Rule, Tally};
 use pl_capture::{Item, ItemKind};
 use pl_credit::Credits;
 use pl_dllp::Decoded;
@@ -47,6 +48,7 @@ pub struct Engine {
     pairs: Pairs,
     arrivals: Arrivals,
     peaks: Peaks,
+    broken: Broken,
     ghost down_room: { lanes.down.room ≡ profile.unacknowledged },
     ghost up_room: { lanes.up.room ≡ profile.unacknowledged },
     ghost down_rises: { latest_position lanes.down.latest_tlp ≤ items },
@@ -54,10 +56,12 @@ pub struct Engine {
     ghost credits_profile: { credits.profile ≡ profile },
     ghost pairs_room: { room_of pairs ≡ profile.outstanding },
     ghost came: { all_of arrivals ≤ items },
+    ghost broken_few: { broken.verdicts ≤ 31 * items },
 }
 
 impl Engine {
     ghost use Rattle.pl_engine.specs.Engine.{RulesStandFor, StandsFor};
+    ghost use Rattle.pl_engine.specs.Tally.{tally_of};
     ghost use Rattle.pl_engine.specs.Verdicts.{blocked, verdicts_at};
 
     /// An engine that has judged nothing. It takes all the memory that it ever uses.
@@ -80,6 +84,7 @@ impl Engine {
             pairs,
             arrivals: Arrivals::new(),
             peaks: Peaks::new(),
+            broken: Broken::new(),
         })
     }
 
@@ -126,7 +131,7 @@ impl Engine {
         ensures none { OnErr result (found.new ≡ found.old) }
     {
         self.judge(item, found)?;
-        self.reach();
+        self.count(found);
         Ok(())
     }
 
@@ -138,6 +143,33 @@ impl Engine {
             result ≡ outstanding (pair_events past) + (length (unacknowledged (lane_events Dir.Down past)) + length (unacknowledged (lane_events Dir.Up past))) + 512 }
     {
         u64::from(self.pairs.outstanding()) + self.lanes.unacknowledged() + NOTES
+    }
+
+    /// What is counted of the items that it judged.
+    pub fn tally(&self) -> Tally
+        ensures { (past : List Entry) → StandsFor self.now past → result ≡ tally_of self.now.profile past }
+    {
+        let Arrivals {
+            down,
+            up,
+            link_down,
+        } = self.arrivals;
+        Tally {
+            items: self.items,
+            tlp: [down.tlp, up.tlp],
+            dllp: [down.dllp, up.dllp],
+            link_down,
+            taken: [down.taken, up.taken],
+            repeat: [down.repeat, up.repeat],
+            stray: [down.stray, up.stray],
+            spoiled: [down.spoiled, up.spoiled],
+            nullified: [down.nullified, up.nullified],
+            most_outstanding: u64::from(self.peaks.outstanding),
+            most_unacknowledged: [u64::from(self.peaks.down), u64::from(self.peaks.up)],
+            rules: self.broken.rules,
+            first_at: self.broken.first_at,
+            verdicts: self.broken.verdicts,
+        }
     }
 
     /// Judges an item, and counts it.
@@ -152,7 +184,8 @@ impl Engine {
         ensures arrivals { (past : List Entry) → RulesStandFor self.old past → ArrivalsStandFor self.old.arrivals past →
             OnOk result (ArrivalsStandFor self.new.arrivals (entry item.now ∷ past)) }
         ensures peaks { self.new.peaks ≡ self.old.peaks }
-        ensures most { array_vec_len found.new ≤ 32 }
+        ensures broken { self.new.broken ≡ self.old.broken }
+        ensures most { array_vec_len found.new ≤ 31 }
         ensures profile { self.new.profile ≡ self.old.profile }
         ensures items { OnOk result (self.new.items ≡ self.old.items + 1) }
         ensures err { OnErr result (self.new ≡ self.old) }
@@ -171,13 +204,18 @@ impl Engine {
         }
     }
 
-    /// Remembers the most that is kept, behind an item.
-    fn reach(&mut self)
+    /// Counts the verdicts on the item that it judged last, and the most that it keeps.
+    fn count(&mut self, found: &Found)
+        requires most { array_vec_len found.now ≤ 31 }
+        requires few { (0 < self.old.items) × (self.old.items ≤ 2 ^ 59) }
+        requires verdicts { self.old.broken.verdicts + 31 ≤ 31 * self.old.items }
         ensures stands { (past : List Entry) (x : Entry) → RulesStandFor self.old (x ∷ past) → ArrivalsStandFor self.old.arrivals (x ∷ past) →
-            PeaksStandFor self.old.peaks past → StandsFor self.new (x ∷ past) }
+            PeaksStandFor self.old.peaks past → BrokenStandsFor self.old.profile self.old.broken past →
+            found.now.items ≡ verdicts_at self.old.profile past x → StandsFor self.new (x ∷ past) }
         ensures profile { self.new.profile ≡ self.old.profile }
         ensures items { self.new.items ≡ self.old.items }
     {
+        self.broken.add_all(found, self.items);
         self.peaks.rise(
             self.pairs.outstanding(),
             self.lanes.unacknowledged_of(Dir::Down),
@@ -198,7 +236,8 @@ impl Engine {
         ensures arrivals { (past : List Entry) → RulesStandFor self.old past → ArrivalsStandFor self.old.arrivals past →
             OnOk result (ArrivalsStandFor self.new.arrivals (entry item.now ∷ past)) }
         ensures peaks { self.new.peaks ≡ self.old.peaks }
-        ensures most { array_vec_len found.new ≤ 32 }
+        ensures broken { self.new.broken ≡ self.old.broken }
+        ensures most { array_vec_len found.new ≤ 31 }
         ensures profile { self.new.profile ≡ self.old.profile }
         ensures items { OnOk result (self.new.items ≡ self.old.items + 1) }
         ensures err { OnErr result (self.new ≡ self.old) }
@@ -232,7 +271,8 @@ impl Engine {
         ensures stands { (past : List Entry) → RulesStandFor self.old past → OnOk result (RulesStandFor self.new (entry item.now ∷ past)) }
         ensures arrivals { self.new.arrivals ≡ self.old.arrivals }
         ensures peaks { self.new.peaks ≡ self.old.peaks }
-        ensures most { array_vec_len found.new ≤ 32 }
+        ensures broken { self.new.broken ≡ self.old.broken }
+        ensures most { array_vec_len found.new ≤ 31 }
         ensures profile { self.new.profile ≡ self.old.profile }
         ensures items { OnOk result (self.new.items ≡ self.old.items + 1) }
         ensures err { OnErr result (self.new ≡ self.old) }
@@ -261,7 +301,8 @@ impl Engine {
         ensures stands { (past : List Entry) → RulesStandFor self.old past → OnOk result (RulesStandFor self.new (entry item.now ∷ past)) }
         ensures arrivals { self.new.arrivals ≡ self.old.arrivals }
         ensures peaks { self.new.peaks ≡ self.old.peaks }
-        ensures most { array_vec_len found.new ≤ 32 }
+        ensures broken { self.new.broken ≡ self.old.broken }
+        ensures most { array_vec_len found.new ≤ 31 }
         ensures profile { self.new.profile ≡ self.old.profile }
         ensures items { OnOk result (self.new.items ≡ self.old.items + 1) }
         ensures err { OnErr result (self.new ≡ self.old) }
@@ -302,7 +343,8 @@ impl Engine {
         ensures stands { (past : List Entry) → RulesStandFor self.old past → RulesStandFor self.new (entry item.now ∷ past) }
         ensures arrivals { (past : List Entry) → ArrivalsStandFor self.old.arrivals past → ArrivalsStandFor self.new.arrivals (entry item.now ∷ past) }
         ensures peaks { self.new.peaks ≡ self.old.peaks }
-        ensures most { array_vec_len found.new ≤ 32 }
+        ensures broken { self.new.broken ≡ self.old.broken }
+        ensures most { array_vec_len found.new ≤ 31 }
         ensures profile { self.new.profile ≡ self.old.profile }
         ensures items { self.new.items ≡ self.old.items + 1 }
     {
@@ -332,6 +374,7 @@ impl Engine {
         ensures stands { (past : List Entry) (x : Entry) → RulesStandFor self.old past → x.kind ≡ ItemKind.LinkDown → RulesStandFor self.new (x ∷ past) }
         ensures arrivals { (past : List Entry) (x : Entry) → ArrivalsStandFor self.old.arrivals past → x.kind ≡ ItemKind.LinkDown → ArrivalsStandFor self.new.arrivals (x ∷ past) }
         ensures peaks { self.new.peaks ≡ self.old.peaks }
+        ensures broken { self.new.broken ≡ self.old.broken }
         ensures profile { self.new.profile ≡ self.old.profile }
         ensures items { self.new.items ≡ self.old.items + 1 }
     {

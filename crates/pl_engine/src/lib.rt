@@ -1,6 +1,7 @@
 //! The engine: what each item of a capture breaks, one item after another, in memory that is taken once.
 #![tactic(auto)]
 
+mod broken;
 mod engine;
 mod flow;
 mod lanes;
