@@ -6,6 +6,7 @@ use pl_cli::run;
 use pl_io::{MemShelf, MemSink};
 use pl_notation::Notation;
 use std::alloc::{AllocError, Global};
+use std::test::Fail;
 
 /// What one run of the program answered and wrote.
 #[derive(Debug, Drop)]
@@ -18,6 +19,76 @@ impl Outcome {
     pub fn is(&self, status: u8, output: &str) -> bool {
         self.status == status && self.output.as_slice() == output.as_bytes()
     }
+
+    /// Whether these lines were written, which are parted by `;`, and nothing else.
+    fn has_lines(&self, lines: &str) -> bool {
+        let mut rest = self.output.as_slice();
+        for line in lines.split(';') {
+            match rest.strip_prefix(line.trim().as_bytes()) {
+                Some([b'\n', behind @ ..]) => rest = behind,
+                _ => return false,
+            }
+        }
+        rest.is_empty()
+    }
+}
+
+/// A capture by its rows, and what `check` answers of it.
+#[derive(Clone, Copy)]
+pub struct Case<'a> {
+    pub profile: &'a str,
+    pub rows: &'a str,
+    pub status: u8,
+    pub lines: &'a str,
+}
+
+impl<'a> Case<'a> {
+    /// Under the usual profile these rows give this status and these lines, parted by `;`.
+    pub fn new(rows: &'a str, status: u8, lines: &'a str) -> Case<'a> {
+        Case::under("-", rows, status, lines)
+    }
+
+    /// The same under a profile of this text.
+    pub fn under(profile: &'a str, rows: &'a str, status: u8, lines: &'a str) -> Case<'a> {
+        Case {
+            profile,
+            rows,
+            status,
+            lines,
+        }
+    }
+
+    /// Whether this capture gives it, noted so far and to be followed by the rows.
+    pub fn judge_behind(&self, alloc: Global, mut notation: Notation) -> Result<(), Fail> {
+        notation.rows(self.rows)?;
+        let outcome = check_under(alloc, self.profile, &notation.end()?)?;
+        if outcome.status == self.status && outcome.has_lines(self.lines) {
+            return Ok(());
+        }
+        let written = str::from_utf8(&outcome.output)?;
+        let status = outcome.status;
+        Err(Fail::new(format_args!("{} gives {status}, {written}", self.rows)))
+    }
+}
+
+/// Checks each capture.
+pub fn judge(alloc: Global, cases: &[Case<'_>]) -> Result<(), Fail> {
+    for case in cases {
+        case.judge_behind(alloc, Notation::new(alloc, 0)?)?;
+    }
+    Ok(())
+}
+
+/// Checks a capture under `-`, the usual profile, or else under a profile of this text.
+fn check_under(alloc: Global, profile: &str, capture: &[u8]) -> Result<Outcome, AllocError> {
+    let mut shelf = MemShelf::new(alloc, 4096, &[])?;
+    shelf.add("capture", capture)?;
+    shelf.add("profile", profile.as_bytes())?;
+    let mut out = MemSink::new(alloc, 4096, 4096, &[])?;
+    let name = if profile == "-" { "-" } else { "profile" };
+    let status = run(alloc, &["check", name, "capture"], &mut shelf, &mut out);
+    let output = Vec::from_slice(alloc, out.written())?;
+    Ok(Outcome { status, output })
 }
 
 /// The calls of a shelf or a sink: how many bytes each moves at most, and which of them fail, counted from 1.

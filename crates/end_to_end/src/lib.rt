@@ -4,12 +4,24 @@
 #[cfg(test)]
 mod capture;
 #[cfg(test)]
+mod completions;
+#[cfg(test)]
+mod credits;
+#[cfg(test)]
 mod cuts;
 #[cfg(test)]
 mod desk;
 #[cfg(test)]
 mod faults;
 #[cfg(test)]
+mod formation;
+#[cfg(test)]
 mod link;
 #[cfg(test)]
+mod notation;
+#[cfg(test)]
+mod order;
+#[cfg(test)]
 mod profile;
+#[cfg(test)]
+mod sequence;

@@ -162,8 +162,13 @@ impl Notation {
         Ok(bytes)
     }
 
+    /// Where the capture's memory comes from.
+    pub(crate) fn allocator(&self) -> Global {
+        *self.bytes.allocator()
+    }
+
     /// The number of the next item, which is also its time.
-    fn next(&self) -> u64 {
+    pub(crate) fn next(&self) -> u64 {
         self.items.saturating_add(1)
     }
 }
