@@ -86,5 +86,5 @@ fn fits(dllp: &Dllp) -> bool
 fn fits_widths(fc: &Fc) -> bool
     ensures { IsTrue result → FitsWidths fc.now }
 {
-    fc.vc < 8 && fc.hdr_scale < 4 && fc.data_scale < 4 && fc.units < 4096
+    fc.vc < 8 && fc.hdr_scale < 4 && u16::from(fc.hdr) < 256 && fc.data_scale < 4 && fc.units < 4096
 }

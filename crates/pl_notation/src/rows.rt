@@ -57,15 +57,10 @@ impl Notation {
     /// Adds what a row says, and says whether it is understood.
     fn row(&mut self, text: &str) -> Result<bool, AllocError> {
         let words: Vec<&str> = text.split_whitespace().collect(self.allocator())?;
-        let words = match words.as_slice() {
-            [] => return Ok(true),
-            [first, rest @ ..] => match first.parse::<u64>() {
-                Ok(number) if number == self.next() => rest,
-                Ok(_) => return Ok(false),
-                Err(_) => words.as_slice(),
-            },
-        };
-        match parse(words) {
+        if words.is_empty() {
+            return Ok(true);
+        }
+        match parse(&words, self.next()) {
             None => Ok(false),
             Some(Row::LinkDown) => self.link_down().map(|()| true),
             Some(Row::BringUp(credits)) => credits.add_to(self),
@@ -75,15 +70,25 @@ impl Notation {
     }
 }
 
-/// What these words say.
-fn parse(words: &[&str]) -> Option<Row> {
-    match words {
+/// What these words say, where the next item has this number.
+fn parse(words: &[&str], next: u64) -> Option<Row> {
+    match behind_number(words, next)? {
         ["link", "down"] => Some(Row::LinkDown),
         ["B0", rest @ ..] => Credits::unlimited().with(rest).map(Row::BringUp),
         ["B1", rest @ ..] => Credits::limited().with(rest).map(Row::BringUp),
         ["Down", name, rest @ ..] => packet(Dir::Down, name, rest),
         ["Up", name, rest @ ..] => packet(Dir::Up, name, rest),
         _ => None,
+    }
+}
+
+/// The words behind the number of the item, where they begin with one. None where it is another item's.
+fn behind_number<'a>(words: &'a [&'a str], next: u64) -> Option<&'a [&'a str]> {
+    let (first, rest) = words.split_first()?;
+    match first.parse::<u64>() {
+        Ok(number) if number == next => Some(rest),
+        Ok(_) => None,
+        Err(_) => Some(words),
     }
 }
 
