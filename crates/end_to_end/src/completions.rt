@@ -176,6 +176,11 @@ fn a_completion_that_answers_nothing_or_otherwise(rt: HostRuntime) -> Result<(),
                 1,
                 "item 14 rule C10 first 13 second -; end items 14 verdicts 1",
             ),
+            Case::new(
+                "B0; 13 Up MRd n=0 tag=1 addr=1000 len=1; 14 Down Cpl n=0 tag=1 status CRS",
+                1,
+                "item 14 rule C8 first 13 second -; end items 14 verdicts 1",
+            ),
             // The length of a translation's answer is judged, its Byte Count isn't.
             Case::new(
                 "B0; 13 Up MRd n=0 tag=0 addr=1000 len=2 AT 01; 14 Down CplD n=0 tag=0 bc=64 len=3",

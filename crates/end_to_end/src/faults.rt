@@ -20,6 +20,15 @@ fn a_read_fault_comes_after_the_lines_of_the_whole_items(rt: HostRuntime) -> Res
 }
 
 #[test]
+fn a_refusal_in_what_was_read_goes_before_a_read_fault(rt: HostRuntime) -> Result<(), Fail> {
+    let mut wrong = EMPTY;
+    wrong[35] = 1;
+    let outcome = check_by(rt.alloc(), &wrong, Calls::failing(64, &[3]), Calls::whole())?;
+    assert!(rt; outcome.is(4, "malformed 7 at item 1\n"), "{outcome:?}");
+    Ok(())
+}
+
+#[test]
 fn nothing_is_written_after_a_write_fault(rt: HostRuntime) -> Result<(), Fail> {
     let capture = damaged_ack(rt.alloc())?;
     let outcome = check_by(
@@ -70,5 +79,6 @@ fn words_that_are_no_command_get_the_usage_line(rt: HostRuntime) -> Result<(), F
         is_usage(rt.alloc(), &["Check", "-", "capture"])?,
         "another word"
     );
+    assert!(rt; is_usage(rt.alloc(), &["trial", "1", "0"])?, "a count of 0");
     Ok(())
 }

@@ -17,9 +17,53 @@ fn memory_requests_stay_in_their_page_and_enable_bytes_without_gaps(
                 "item 13 rule M5 first - second -; end items 14 verdicts 1",
             ),
             Case::new(
+                "B0; 13 Up MRd n=0 tag=0 addr=1000 len=1 be=F/F",
+                1,
+                "item 13 rule M7 first - second -; end items 13 verdicts 1",
+            ),
+            Case::new(
                 "B0; 13 Up MWr n=0 addr=8 len=2 be=5/A; 14 Up MWr n=1 addr=4 len=2 be=5/A",
                 1,
                 "item 14 rule M8 first - second -; end items 14 verdicts 1",
+            ),
+        ],
+    )
+}
+
+#[test]
+fn requests_and_messages_have_the_form_of_their_kind(rt: HostRuntime) -> Result<(), Fail> {
+    judge(
+        rt.alloc(),
+        &[
+            Case::new(
+                "B0; 13 Up CfgRd0 n=0 tag=0 len=1",
+                1,
+                "item 13 rule M10 first - second -; end items 13 verdicts 1",
+            ),
+            Case::new(
+                "B0; 13 Up FetchAdd n=0 tag=0 addr=1000 len=3",
+                1,
+                "item 13 rule M11 first - second -; end items 13 verdicts 1",
+            ),
+            Case::new(
+                "B0; 13 Up FetchAdd n=0 tag=0 addr=1004 len=2",
+                1,
+                "item 13 rule M12 first - second -; end items 13 verdicts 1",
+            ),
+            Case::new(
+                "B0; 13 Down Msg n=0 code 18 routing 000",
+                1,
+                "item 13 rule M13 first - second -; end items 13 verdicts 1",
+            ),
+            Case::new(
+                "B0; 13 Up Msg n=0 code 18 routing 000 TC 1",
+                1,
+                "item 13 rule M14 first - second -; end items 13 verdicts 1",
+            ),
+            Case::new(
+                "B0; 13 Up MsgD n=0 code 18 routing 000 len=1",
+                1,
+                "item 13 rule M15 first - second -; end items 13 verdicts 1",
             ),
         ],
     )
@@ -106,20 +150,10 @@ fn the_profile_bounds_sizes_and_tags(rt: HostRuntime) -> Result<(), Fail> {
 
 /// The digests were computed apart from this program.
 #[test]
-fn atomics_messages_digests_and_prefixes_have_their_rules(rt: HostRuntime) -> Result<(), Fail> {
+fn digests_and_prefixes_have_their_rules(rt: HostRuntime) -> Result<(), Fail> {
     judge(
         rt.alloc(),
         &[
-            Case::new(
-                "B0; 13 Up FetchAdd n=0 tag=0 addr=1004 len=2",
-                1,
-                "item 13 rule M12 first - second -; end items 13 verdicts 1",
-            ),
-            Case::new(
-                "B0; 13 Down Msg n=0 code 18 routing 000",
-                1,
-                "item 13 rule M13 first - second -; end items 13 verdicts 1",
-            ),
             Case::new(
                 "B0; 13 Up MWr n=0 digest=8D6C3B34",
                 0,
