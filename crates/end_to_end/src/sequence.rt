@@ -1,4 +1,6 @@
 //! The sequence rules S1 to S5.
+ghost use Rattle.std.specs.Prelude.{◌<◌};
+
 use crate::desk::{Case, judge};
 use pl_base::{Body, Dir};
 use pl_notation::Notation;
