@@ -9,7 +9,7 @@ use std::alloc::Global;
 use std::test::Fail;
 
 /// Configuration and memory reads with credits that come back.
-const TRANSACTIONS: &str = "B1; 13 Down CfgRd0 n=0 req=0000 tag=0 len=1; 14 Up Ack 0; \
+pub const TRANSACTIONS: &str = "B1; 13 Down CfgRd0 n=0 req=0000 tag=0 len=1; 14 Up Ack 0; \
     15 Up CplD n=0 req=0000 tag=0 bc=4 la=0 len=1; 16 Down Ack 0; 17 Up UpdateFC-NP 33/32; \
     18 Down UpdateFC-Cpl 33/65; 19 Up MRd n=1 tag=1 addr=1000 len=128; 20 Down Ack 1; \
     21 Down CplD n=1 tag=1 bc=512 la=0 len=64; 22 Down CplD n=2 tag=1 bc=256 la=0 len=64; \

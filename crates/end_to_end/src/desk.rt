@@ -58,7 +58,7 @@ impl<'a> Case<'a> {
         }
     }
 
-    /// Whether this capture gives it, noted so far and to be followed by the rows.
+    /// Checks that the capture gives it, noted so far and followed by the rows.
     pub fn judge_behind(&self, alloc: Global, mut notation: Notation) -> Result<(), Fail> {
         notation.rows(self.rows)?;
         let outcome = check_under(alloc, self.profile, &notation.end()?)?;

@@ -6,6 +6,8 @@ mod capture;
 #[cfg(test)]
 mod completions;
 #[cfg(test)]
+mod counting;
+#[cfg(test)]
 mod credits;
 #[cfg(test)]
 mod cuts;
