@@ -7,7 +7,7 @@ use Rattle.std.proofs.lemmas.Slice.Eq.{bytes_eq-Decides}
 use Rattle.std.proofs.lemmas.Bool.{false_from_ne_true}
 use Rattle.pl_io.specs.declared.memory.file.MemFile.{MemFile}
 use Rattle.pl_io.specs.declared.memory.file.Opened.{Opened}
-use Rattle.pl_io.specs.MemFiles.{IsInside, bytes_at, file_in, unread}
+use Rattle.pl_io.specs.MemFiles.{IsInside, bytes_at, file_in, name_at, opened_name, unread}
 
 -- a file with the name behind which no other has it
 pub file_in-newest : (files : List MemFile) (k : ℕ) (name : List ℕ) (other : MemFile) → k < length files →
@@ -17,6 +17,13 @@ file_in-newest [] k name other inside none named = absurd (omega arith)
 file_in-newest (file ∷ files) zero name other inside none named = rw (none, named)
 file_in-newest (file ∷ files) (suc k) name other inside none named =
     rw (file_in-newest files k name other (omega arith) none named)
+
+-- that file has the name
+pub name_at-named : (files : List MemFile) (k : ℕ) (name : List ℕ) (other : MemFile) → k < length files →
+    bytes_eq (string_bytes (get_or files k other).name) name ≡ true → name_at files k ≡ name
+name_at-named [] k name other inside named = absurd (omega arith)
+name_at-named (file ∷ files) zero name other inside named = (bytes_eq-Decides (string_bytes file.name) name).0 named
+name_at-named (file ∷ files) (suc k) name other inside named = name_at-named files k name other (omega arith) named
 
 option_or-None : {T : Type 0} (value : Option T) → option_or value None ≡ value
 option_or-None None = refl
@@ -36,6 +43,11 @@ pub bytes_at-append : (files more : List MemFile) (k : ℕ) → k < length files
 bytes_at-append [] more k inside = absurd (omega arith)
 bytes_at-append (file ∷ files) more zero inside = refl
 bytes_at-append (file ∷ files) more (suc k) inside = bytes_at-append files more k (omega arith)
+
+name_at-append : (files more : List MemFile) (k : ℕ) → k < length files → name_at (files ++ more) k ≡ name_at files k
+name_at-append [] more k inside = absurd (omega arith)
+name_at-append (file ∷ files) more zero inside = refl
+name_at-append (file ∷ files) more (suc k) inside = name_at-append files more k (omega arith)
 
 -- the bytes at an index are those of the file there
 pub bytes_at-get : (files : List MemFile) (k : ℕ) (other : MemFile) → k < length files → bytes_at files k ≡ (get_or files k other).bytes.items
@@ -62,6 +74,11 @@ pub unread-append : (files more : List MemFile) (opened : Option Opened) → IfS
     option_map (unread (files ++ more)) opened ≡ option_map (unread files) opened
 unread-append files more None inside = refl
 unread-append files more (Some opened) inside = rw (bytes_at-append files more opened.file inside.0)
+
+pub name-append : (files more : List MemFile) (opened : Option Opened) → IfSome opened (IsInside files) →
+    option_map (opened_name (files ++ more)) opened ≡ option_map (opened_name files) opened
+name-append files more None inside = refl
+name-append files more (Some opened) inside = rw (name_at-append files more opened.file inside.0)
 
 -- the same where one more file may not have found memory
 pub inside-pushed : (files pushed more : List MemFile) (found : Bool) (opened : Option Opened) →

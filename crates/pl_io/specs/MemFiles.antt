@@ -15,6 +15,12 @@ bytes_at [] k = []
 bytes_at (file ∷ newer) zero = file.bytes.items
 bytes_at (file ∷ newer) (suc k) = bytes_at newer k
 
+-- the name of the file at an index
+abbrev pub name_at : List MemFile → ℕ → List ℕ
+name_at [] k = []
+name_at (file ∷ newer) zero = string_bytes file.name
+name_at (file ∷ newer) (suc k) = name_at newer k
+
 -- the file is one of these, and its place no later than its end
 abbrev pub IsInside : List MemFile → Opened → Type 0
 IsInside files opened = (opened.file < length files) × (opened.place ≤ length (bytes_at files opened.file))
@@ -22,3 +28,7 @@ IsInside files opened = (opened.file < length files) × (opened.place ≤ length
 -- what is left of an open file
 abbrev pub unread : List MemFile → Opened → List ℕ
 unread files opened = drop opened.place (bytes_at files opened.file)
+
+-- the name of an open file
+abbrev pub opened_name : List MemFile → Opened → List ℕ
+opened_name files opened = name_at files opened.file

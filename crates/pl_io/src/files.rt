@@ -13,18 +13,21 @@ use std::rt::Files;
 pub struct FileShelf<R: Files> {
     rt: R,
     file: Option<R::File>,
+    opens: u64,
     faults: FaultCount,
 }
 
 impl<R: Files> FileShelf<R> {
-    /// A shelf over these files, with none open and no fault.
+    /// A shelf over these files, with none open, none ever opened and no fault.
     pub fn new(rt: R) -> FileShelf<R>
         ensures closed { ⟦<Self as Shelf>⟧.is_open result ≡ false }
+        ensures none_opened { ⟦<Self as Shelf>⟧.opens result ≡ 0 }
         ensures none_failed { ⟦<Self as Shelf>⟧.faults result ≡ 0 }
     {
         FileShelf {
             rt,
             file: None,
+            opens: 0,
             faults: FaultCount::new(),
         }
     }
@@ -37,6 +40,10 @@ impl<R: Files> Shelf for FileShelf<R> {
 
     ghost is_open = { λ shelf. is_some shelf.file };
 
+    ghost opens = { λ shelf. shelf.opens };
+
+    ghost open_name = { λ shelf. None };
+
     ghost rest = { λ shelf. None };
 
     ghost sure = { λ shelf. false };
@@ -48,6 +55,7 @@ impl<R: Files> Shelf for FileShelf<R> {
     ghost sure_is_below = { λ shelf never. absurd (false≢true never) };
 
     fn open(&mut self, name: &str) -> Result<(), Failed> {
+        self.opens = self.opens.saturating_add(1);
         match File::open(&self.rt, name) {
             Ok(file) => {
                 self.file = Some(file);

@@ -1,6 +1,6 @@
 //! Files that can be opened by name and read, one at a time.
-ghost use Rattle.std.specs.Prelude.{◌≡◌, ◌<◌, ◌≤◌, List, ℕ, Bool, true, false, length, take, Option, IfOk, OnOk, OnErr, IsOk, IsSome};
-ghost use Rattle.pl_io.specs.Faults.{HasCause, last_count};
+ghost use Rattle.std.specs.Prelude.{◌≡◌, ◌<◌, ◌≤◌, List, ℕ, Bool, true, false, length, take, Option, Some, IfOk, OnOk, OnErr, IsOk, IsSome};
+ghost use Rattle.pl_io.specs.Faults.{HasCause, last_count, raised};
 ghost use Rattle.pl_io.specs.Told.{ahead, AtEnd};
 
 use crate::failed::Failed;
@@ -15,6 +15,12 @@ pub trait Shelf {
 
     /// Whether a file is open. This is always told.
     ghost is_open: { Self → Bool };
+
+    /// How often `open` was called, whatever it answered. This is always told.
+    ghost opens: { Self → ℕ };
+
+    /// The name of the open file, where the shelf tells its files.
+    ghost open_name: { Self → Option (List ℕ) };
 
     /// What is left of the open file, where it is told.
     ghost rest: { Self → Option (List ℕ) };
@@ -32,6 +38,8 @@ pub trait Shelf {
         ensures opened { OnOk result (is_open self.new ≡ true) }
         ensures closed { OnErr result (is_open self.new ≡ false) }
         ensures whole { OnOk result (told self.old ≡ true → IsSome (rest self.new) × (rest self.new ≡ file self.old name.now)) }
+        ensures counted { opens self.new ≡ raised (opens self.old) }
+        ensures named { OnOk result (told self.old ≡ true → open_name self.new ≡ Some name.now) }
 
         // What is under the names stays as it was, and as far told.
         ensures still_told { told self.new ≡ told self.old }
@@ -53,6 +61,8 @@ pub trait Shelf {
         ensures bytes { IfOk result (λ n. rest self.old ≡ ahead (take n buf.new) (rest self.new)) }
         ensures end { IfOk result (λ n. n ≡ 0 → AtEnd (rest self.old)) }
         ensures err { OnErr result (rest self.new ≡ rest self.old) }
+        ensures opens { opens self.new ≡ opens self.old }
+        ensures name_kept { open_name self.new ≡ open_name self.old }
 
         // What is under the names stays as it was, and as far told.
         ensures still_told { told self.new ≡ told self.old }

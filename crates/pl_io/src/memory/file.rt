@@ -1,6 +1,6 @@
 //! One file in memory, and how it is found and read.
 ghost use Rattle.std.specs.Prelude.{◌≡◌, ◌<◌, ◌^◌, ◌++◌, length, take, min, Some, None, IfOk, IfSome, IfNone, string_bytes};
-ghost use Rattle.pl_io.specs.MemFiles.{IsInside, bytes_at, file_in, unread};
+ghost use Rattle.pl_io.specs.MemFiles.{IsInside, bytes_at, file_in, name_at, unread};
 
 use std::alloc::{AllocError, Global};
 
@@ -34,6 +34,7 @@ impl MemFile {
 /// The index of the newest file of this name.
 pub fn newest(files: &[MemFile], name: &str) -> Option<usize>
     ensures found { IfSome result (λ k. k < length files.now × (file_in files.now name.now ≡ Some (bytes_at files.now k))) }
+    ensures named { IfSome result (λ k. name_at files.now k ≡ name.now) }
     ensures absent { IfNone result (file_in files.now name.now ≡ None) }
 {
     for k in (0..files.len()).rev() {
@@ -58,6 +59,7 @@ impl Opened {
     pub fn read(&mut self, files: &[MemFile], step: usize, buf: &mut [u8]) -> usize
         requires { IsInside files.now self.old }
         ensures inside { IsInside files.now self.new }
+        ensures file { self.new.file ≡ self.old.file }
         ensures count { result ≡ min (min step (length (unread files.now self.old))) (length buf.old) }
         ensures bytes { unread files.now self.old ≡ take result buf.new ++ unread files.now self.new }
     {

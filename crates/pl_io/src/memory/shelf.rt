@@ -3,7 +3,7 @@ ghost use Rattle.std.specs.Prelude.{◌≡◌, ◌≢◌, ◌<◌, ℕ, List, tr
 ghost use Rattle.std.proofs.Common.{arith};
 ghost use Rattle.std.proofs.Props.{props};
 ghost use Rattle.std.proofs.lemmas.Bool.Decides.{nat_tests};
-ghost use Rattle.pl_io.specs.MemFiles.{IsInside, file_in, unread};
+ghost use Rattle.pl_io.specs.MemFiles.{IsInside, file_in, opened_name, unread};
 ghost use Rattle.pl_io.specs.FaultPlan.{is_sure, none_from};
 
 use crate::failed::Failed;
@@ -19,6 +19,8 @@ pub struct MemShelf {
     /// Oldest first: of two with one name the newer is the file of that name.
     files: Vec<MemFile>,
     opened: Option<Opened>,
+    /// How often `open` was called.
+    opens: u64,
     /// At most so many bytes are given by one read.
     step: usize,
     plan: FaultPlan,
@@ -35,6 +37,8 @@ impl MemShelf {
         ensures told { IfOk result (λ shelf. ⟦<Self as Shelf>⟧.told shelf ≡ true) }
         ensures no_files { IfOk result (λ shelf. (name : List ℕ) → ⟦<Self as Shelf>⟧.file shelf name ≡ None) }
         ensures closed { IfOk result (λ shelf. ⟦<Self as Shelf>⟧.is_open shelf ≡ false) }
+        ensures none_opened { IfOk result (λ shelf. ⟦<Self as Shelf>⟧.opens shelf ≡ 0) }
+        ensures no_name { IfOk result (λ shelf. ⟦<Self as Shelf>⟧.open_name shelf ≡ None) }
         ensures sure { IfOk result (λ shelf. ⟦<Self as Shelf>⟧.sure shelf ≡ none_from 1 fails.now) }
         ensures none_failed { IfOk result (λ shelf. ⟦<Self as Shelf>⟧.faults shelf ≡ 0) }
     {
@@ -42,6 +46,7 @@ impl MemShelf {
             alloc,
             files: Vec::new(alloc),
             opened: None,
+            opens: 0,
             step,
             plan: FaultPlan::new(alloc, fails)?,
         })
@@ -58,6 +63,8 @@ impl MemShelf {
 
         // All else stays.
         ensures is_open { ⟦<Self as Shelf>⟧.is_open self.new ≡ ⟦<Self as Shelf>⟧.is_open self.old }
+        ensures opens { ⟦<Self as Shelf>⟧.opens self.new ≡ ⟦<Self as Shelf>⟧.opens self.old }
+        ensures open_name { ⟦<Self as Shelf>⟧.open_name self.new ≡ ⟦<Self as Shelf>⟧.open_name self.old }
         ensures rest { ⟦<Self as Shelf>⟧.rest self.new ≡ ⟦<Self as Shelf>⟧.rest self.old }
         ensures sure { ⟦<Self as Shelf>⟧.sure self.new ≡ ⟦<Self as Shelf>⟧.sure self.old }
         ensures faults { ⟦<Self as Shelf>⟧.faults self.new ≡ ⟦<Self as Shelf>⟧.faults self.old }
@@ -75,6 +82,10 @@ impl Shelf for MemShelf {
 
     ghost is_open = { λ shelf. is_some shelf.opened };
 
+    ghost opens = { λ shelf. shelf.opens };
+
+    ghost open_name = { λ shelf. option_map (opened_name shelf.files.items) shelf.opened };
+
     ghost rest = { λ shelf. option_map (unread shelf.files.items) shelf.opened };
 
     ghost sure = { λ shelf. is_sure shelf.plan };
@@ -87,6 +98,7 @@ impl Shelf for MemShelf {
 
     fn open(&mut self, name: &str) -> Result<(), Failed> {
         self.opened = None;
+        self.opens = self.opens.saturating_add(1);
         self.plan.begin_call()?;
         match newest(&self.files, name) {
             Some(file) => {

@@ -1,5 +1,5 @@
 use Rattle.std.proofs.Common.{◌≡◌, ◌-◌, ◌<◌, suc, length, arith, rules}
-use Rattle.pl_io.proofs.MemFiles.{file_in-newest}
+use Rattle.pl_io.proofs.MemFiles.{file_in-newest, name_at-named}
 use Rattle.pl_io.proofs.memory.file.newest.Goals as goal
 
 pub returns-then-eq-clause-found : goal.returns-then-eq-clause-found
@@ -11,3 +11,7 @@ returns-then-eq-clause-found c =
       file_in-newest c.args.files.now k c.args.name.now c.index-files-k.result inside
           (rw next at c.loop-k.invariant) (search rules),
     )
+
+pub returns-then-eq-clause-named : goal.returns-then-eq-clause-named
+returns-then-eq-clause-named c =
+    name_at-named c.args.files.now (c.loop-k.k - 1) c.args.name.now c.index-files-k.result (omega arith) (search rules)

@@ -1,4 +1,4 @@
-use Rattle.pl_io.proofs.MemFiles.{file_in-added, file_in-other, inside-pushed, unread-append}
+use Rattle.pl_io.proofs.MemFiles.{file_in-added, file_in-other, inside-pushed, name-append, unread-append}
 use Rattle.pl_io.proofs.memory.shelf.MemShelf.add.Goals as goal
 
 pub invariant_of-self : goal.invariant_of-self
@@ -17,3 +17,6 @@ returns-clause-others c = λ other ne.
 
 pub returns-clause-rest : goal.returns-clause-rest
 returns-clause-rest c = rw c.in_ok-push.ensures.items (unread-append c.args.self.now.files.items _ _ c.args.self.now.inside)
+
+pub returns-clause-open_name : goal.returns-clause-open_name
+returns-clause-open_name c = rw c.in_ok-push.ensures.items (name-append c.args.self.now.files.items _ _ c.args.self.now.inside)
