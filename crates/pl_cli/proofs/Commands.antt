@@ -1,8 +1,8 @@
 -- The words of a command, and what its status says.
-use Rattle.std.proofs.Common.{◌≡◌, ◌≢◌, ◌+◌, ◌≤◌, ◌<◌, ◌==◌, ◌⊎◌, inl, inr, List, ℕ, Bool, true, false, if◌then◌else◌, [], ◌∷◌, refl, ap, ◌∙◌, sym, subst, length, take, map, get_or, Bor, arith, Option, Some, None, IsSome}
+use Rattle.std.proofs.Common.{◌≡◌, ◌≤◌, ◌<◌, ◌==◌, ◌⊎◌, inl, inr, List, ℕ, Bool, true, false, if◌then◌else◌, [], ◌∷◌, refl, ap, ◌∙◌, sym, length, take, map, get_or, Bor, arith, Option, Some, None}
 use Rattle.std.specs.Prelude.{codes, bytes_eq}
 use Rattle.std.proofs.lemmas.Slice.Eq.{bytes_eq-Decides}
-use Rattle.std.proofs.lemmas.Bool.{cases_eq, cases_lt}
+use Rattle.std.proofs.lemmas.Bool.{cases_lt}
 use Rattle.std.proofs.lemmas.List.{take_all}
 use Rattle.std.proofs.lemmas.Grind.{common_steps}
 use Rattle.std.proofs.lemmas.Bool.Decides.{nat_tests}
@@ -95,25 +95,13 @@ words_check (a ∷ []) d r len e h = absurd (omega arith)
 words_check (a ∷ b ∷ []) d r len e h = absurd (omega arith)
 words_check (a ∷ b ∷ c ∷ x ∷ more) d r len e h = absurd (omega arith)
 
--- its operands
-pub operands : (words : List (Bor (List ℕ))) (d : Bor (List ℕ)) (profile capture : List ℕ) →
-    map (λ (w : Bor (List ℕ)). w.now) words ≡ codes "check" ∷ profile ∷ capture ∷ [] → ((get_or words 1 d).now ≡ profile) × ((get_or words 2 d).now ≡ capture)
-operands [] d profile capture h = absurd cc
-operands (a ∷ []) d profile capture h = absurd cc
-operands (a ∷ b ∷ []) d profile capture h = absurd cc
-operands (a ∷ b ∷ c ∷ []) d profile capture h = (cc, cc)
-operands (a ∷ b ∷ c ∷ x ∷ more) d profile capture h = absurd cc
-
--- status 0 is none of the others
-pub above : {answer : ℕ} (n : ℕ) → answer ≡ 0 → answer ≢ n + 1
-above n is0 h = omega arith
-
-pub some_at : {T : Type 0} {a b : Option T} → a ≡ b → IsSome b → IsSome a
-some_at h s = subst IsSome (sym h) s
-
-pub complete_by : (answer : ℕ) (A : Type 0) (B : Type 0) → (answer ≡ 7 → ⊥) → (answer ≡ 8 → ⊥) → (answer ≢ 7 → answer ≢ 8 → answer ≢ 9 → A × B) → (answer ≡ 9) ⊎ (A × B)
-complete_by answer A B n7 n8 done = by (cases_eq answer 9)
-  where
-    by : (answer ≡ 9) ⊎ (answer ≡ 9 → ⊥) → (answer ≡ 9) ⊎ (A × B)
-    by (inl is9) = inl is9
-    by (inr n9) = inr (done n7 n8 n9)
+-- and its names are those behind it
+pub names_are : (words : List (Bor (List ℕ))) (d : Bor (List ℕ)) (profile capture : List ℕ) →
+    map (λ (w : Bor (List ℕ)). w.now) words ≡ codes "check" ∷ profile ∷ capture ∷ [] →
+    map (λ (w : Bor (List ℕ)). w.now) words ≡ codes "check" ∷ (get_or words 1 d).now ∷ (get_or words 2 d).now ∷ []
+names_are [] d profile capture h = absurd cc
+names_are (a ∷ []) d profile capture h = absurd cc
+names_are (a ∷ b ∷ []) d profile capture h = absurd cc
+names_are (a ∷ b ∷ c ∷ []) d profile capture h =
+    let first : a.now ≡ codes "check" = cc in ap (λ (l : List ℕ). l ∷ b.now ∷ c.now ∷ []) first
+names_are (a ∷ b ∷ c ∷ x ∷ more) d profile capture h = absurd cc

@@ -15,7 +15,7 @@ use Rattle.pl_engine.specs.Verdicts.{history_after}
 use Rattle.pl_cli.specs.declared.judging.Judging.{Judging}
 use Rattle.pl_cli.specs.declared.judging.Ended as declared
 use Rattle.pl_cli.specs.declared.judging.Ended.TheVariants as ended
-use Rattle.pl_cli.specs.Output.{Cause, AtRefusal, AtLimit, AtFault, How, Whole, TooLong, Fault, cause_of_ending, cause_status, cut, how_of, items_judged, last_text, limit, lines, output, status, status_of, text}
+use Rattle.pl_cli.specs.Output.{Cause, AtRefusal, AtLimit, AtFault, How, Whole, TooLong, Fault, cause, cause_of, cause_of_ending, cause_status, cut, how_of, items_judged, last_text, limit, lines, output, status, status_of, text}
 use Rattle.pl_cli.specs.Progress.{verdicts_in, SoFar, RefusedIn, CutIn, EndsAs, is_fault, cause_of_step, last_cause}
 use Rattle.pl_cli.proofs.Lists.{accepted_all}
 use Rattle.pl_cli.proofs.Texts.{all_judged, text_by, status_by}
@@ -120,6 +120,12 @@ finishes {j = j} file read extra rest (ended.Refused s) h le f fine =
 pub fault_text : {p : Profile} {k : engine.EngineKept} {w w1 : Option (List ℕ)} {r r1 : Option ℕ} {j : Judging} (read : List ℕ) →
     SoFar p read j k w w1 r r1 → cut p read ≡ lines (verdicts_in p read) ++ last_text j.items j.verdicts AtFault
 fault_text read f = (so_far_text read Fault AtFault f (going (reading read).ending f.goes_on).1).0
+
+-- nothing is refused in what stands before a read fault
+pub fault_cause : {p : Profile} {k : engine.EngineKept} {w w1 : Option (List ℕ)} {r r1 : Option ℕ} {j : Judging} (read : List ℕ) →
+    SoFar p read j k w w1 r r1 → cause p (reading read) Fault ≡ AtFault
+fault_cause {p} read f =
+    ap (λ (o : Option Stop). cause_of o (reading read).ending Fault) f.accepted ∙ (going (reading read).ending f.goes_on).1
 
 -- the sink failed at some item: a part of the output was written, for which there was no room
 pub cut_part : {p : Profile} {k : engine.EngineKept} {w w1 : Option (List ℕ)} {r : Option ℕ} (file read rest : List ℕ) → CutIn p read k w w1 r → file ≡ read ++ rest → length read ≤ limit →

@@ -9,6 +9,7 @@ use Rattle.pl_cli.specs.declared.judging.Judging.{Judging}
 use Rattle.pl_cli.specs.declared.judging.Ended.{Ended}
 use Rattle.pl_cli.specs.declared.judging.Ended.TheVariants as ended
 use Rattle.pl_cli.specs.Output.{limit}
+use Rattle.pl_cli.specs.Promise.{IsFront}
 use Rattle.pl_cli.specs.Progress.{CutIn, EndsAs, LooksBehind, Reads, ReadsCut, RefusedIn, SoFar, Taken, TakenCut}
 
 -- so many bytes were read and judged
@@ -87,14 +88,22 @@ behind_ends ended.Fault extra rest h read size f = (h, f)
 behind_ends ended.TooLong extra rest h read size f = (size, h, f)
 behind_ends (ended.Refused s) extra rest h read size f = absurd h
 
+-- what was read of a file that is told, from its opening on
+pub front_of : (read : List ℕ) (file rest rest' : Option (List ℕ)) → IsSome rest × (rest ≡ file) → rest ≡ ahead read rest' → IsFront read file rest'
+front_of read file rest None w h = absurd (never (subst IsSome h w.0))
+  where
+    never : (let o : Option (List ℕ) = None in IsSome o) → ⊥
+    never k = cc
+front_of read file rest (Some left) w h = (left, sym w.1 ∙ h, refl)
+
 -- from the opening on
 pub taken_reads : {p : Profile} {e : Ended} {j : Judging} {k : engine.EngineKept} {w w1 : Option (List ℕ)} {r r1 : Option ℕ} {file rest rest' : Option (List ℕ)} (told opened : Bool) →
     (told ≡ true → IsSome rest × (rest ≡ file)) → opened ≡ true → Reads p e j k w w1 r r1 rest rest' → Taken p e j k w w1 r r1 told file opened rest'
-taken_reads told opened whole is_open f = record {
+taken_reads {file = file} {rest} {rest'} told opened whole is_open f = record {
   read = f.read;
   extra = f.extra;
   size = f.size;
-  from_file = λ t o. sym (whole t).1 ∙ f.rest_is;
+  from_file = λ t o. front_of (f.read ++ f.extra) file rest rest' (whole t) f.rest_is;
   nothing = λ closed. absurd (never (sym closed ∙ is_open));
   ends = f.ends;
 }
@@ -104,7 +113,8 @@ taken_reads told opened whole is_open f = record {
 
 pub taken_cut : {p : Profile} {k : engine.EngineKept} {w w1 : Option (List ℕ)} {r : Option ℕ} {file rest rest' : Option (List ℕ)} (told : Bool) →
     (told ≡ true → IsSome rest × (rest ≡ file)) → ReadsCut p k w w1 r rest rest' → TakenCut p k w w1 r told file rest'
-taken_cut told whole f = record { read = f.read; size = f.size; from_file = λ t. sym (whole t).1 ∙ f.rest_is; cut = f.cut }
+taken_cut {file = file} {rest} {rest'} told whole f =
+    record { read = f.read; size = f.size; from_file = λ t. front_of f.read file rest rest' (whole t) f.rest_is; cut = f.cut }
 
 -- a file that couldn't be opened
 pub taken_nothing : {p : Profile} {j : Judging} {k : engine.EngineKept} {w w1 : Option (List ℕ)} {r r1 : Option ℕ} {file rest' : Option (List ℕ)} (told opened : Bool) →
@@ -120,10 +130,3 @@ taken_nothing told opened f closed = record {
   where
     never : false ≡ true → ⊥
     never h = cc
-
--- a file that is told to be open is there
-pub some_none : (rest file : Option (List ℕ)) → IsSome rest × (rest ≡ file) → file ≡ None → ⊥
-some_none rest file h none = never (subst IsSome (h.1 ∙ none) h.0)
-  where
-    never : (let o : Option (List ℕ) = None in IsSome o) → ⊥
-    never k = cc

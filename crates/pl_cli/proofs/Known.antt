@@ -1,5 +1,5 @@
 -- The status of each refusal is known: none is want of memory.
-use Rattle.std.proofs.Common.{◌≡◌, ℕ, zero, suc, ◌+◌, ◌==◌, ◌≤◌, List, length, take, drop, Some, Bool, true, false, sym, ap, subst, ◌∙◌, arith, inl, inr, if◌then◌else◌}
+use Rattle.std.proofs.Common.{◌≡◌, ℕ, zero, suc, ◌+◌, ◌≤◌, List, length, take, drop, Some, sym, ap, subst, ◌∙◌, arith, inl, inr}
 use Rattle.std.proofs.lemmas.Bool.{cases_lt}
 use Rattle.std.proofs.lemmas.List.{length-drop}
 use Rattle.pl_base.specs.declared.stop.Stop.{Stop}
@@ -7,15 +7,13 @@ use Rattle.pl_base.specs.declared.stop.Stop.TheVariants.{Malformed}
 use Rattle.pl_base.specs.declared.stop.Malformed.TheVariants.{Trailing}
 use Rattle.pl_capture.specs.Front.{header_fault}
 use Rattle.pl_capture.specs.Reading.{Reading, reading, Bad, records_behind}
-use Rattle.pl_capture.specs.Standing.{Phase, Waiting, Holding, Done, Stopped, Shows, finished_step}
 use Rattle.pl_capture.proofs.Fronts.{seen, partial, refused, whole, last, front_short, wanted_least}
 use Rattle.pl_capture.proofs.Records.{records_partial, records_refused, records_whole, records_ended, records_trailing}
 use Rattle.pl_capture.proofs.Wholes.{header, short, faulty, good, reading_bad, reading_good, reading_short}
 use Rattle.pl_engine.specs.declared.refused.Refused.{Refused}
 use Rattle.pl_engine.specs.declared.refused.Refused.TheVariants.{Outstanding, Unacknowledged, TenBitTag}
 use Rattle.pl_engine.specs.Verdicts.{stop_of}
-use Rattle.pl_cli.specs.Output.{cause_status, stop_status}
-use Rattle.pl_cli.specs.Progress.{cause_of_step}
+use Rattle.pl_cli.specs.Output.{stop_status}
 
 fault_known : (h : List ℕ) (s : Stop) → header_fault h ≡ Some s → stop_status s ≤ 6
 unfolding header_fault
@@ -67,15 +65,3 @@ pub engine_known : (r : Refused) (n : ℕ) → stop_status (stop_of r n) ≤ 6
 engine_known (Outstanding limit) n = omega arith
 engine_known (Unacknowledged limit) n = omega arith
 engine_known TenBitTag n = omega arith
-
-zero_or_one : (b : Bool) → (if b then 0 else 1) ≤ 6
-zero_or_one true = omega arith
-zero_or_one false = omega arith
-
--- the reader's last word, where it refused nothing
-pub end_known : (verdicts place : ℕ) (phase : Phase) (r : Reading) → Shows place phase r → ((s : Stop) → r.ending ≡ Bad s → ⊥) →
-    cause_status verdicts (cause_of_step (finished_step place phase)) ≤ 6
-end_known verdicts place (Waiting pending) r h goes = omega arith
-end_known verdicts place (Holding x) r h goes = omega arith
-end_known verdicts place Done r h goes = zero_or_one (verdicts == 0)
-end_known verdicts place (Stopped s) r h goes = absurd (goes s h.0)

@@ -10,5 +10,7 @@ pub mod Files
 pub mod Ends
 pub mod Tops
 pub mod Profiles
-pub mod Sources
+pub mod Judged
 pub mod Commands
+pub mod Checked
+pub mod Headline

@@ -1,8 +1,8 @@
 -- The clauses of the top call, from what was read and what the last line led to.
-use Rattle.std.proofs.Common.{◌≡◌, ◌≢◌, ◌++◌, ◌+◌, ◌≤◌, ◌⊎◌, inl, inr, List, ℕ, Bool, true, false, [], refl, ap, ◌∙◌, sym, subst, length, take, append_assoc, append-nil, length-append, arith, Option, Some, None, Result, Ok, Err, zero-add}
+use Rattle.std.proofs.Common.{◌≡◌, ◌≢◌, ◌++◌, ◌+◌, ◌≤◌, ◌⊎◌, inl, inr, List, ℕ, Bool, true, false, [], refl, ap, ◌∙◌, sym, subst, length, take, append_assoc, append-nil, arith, Option, Some, None, zero-add}
 use Rattle.std.proofs.lemmas.List.{take_all, take_at}
 use Rattle.pl_base.specs.declared.stop.Stop.{Stop}
-use Rattle.pl_io.specs.declared.failed.Failed.{Failed}
+use Rattle.pl_io.specs.declared.sink.Sink as sink
 use Rattle.pl_io.specs.Faults.{Rose}
 use Rattle.pl_io.specs.Told.{plus, ahead, HasRoom, Partly}
 use Rattle.pl_io.proofs.Told.{plus-plus}
@@ -15,13 +15,28 @@ use Rattle.pl_engine.specs.Verdicts.{accepted, history_after, refusal, verdicts_
 use Rattle.pl_cli.specs.declared.judging.Judging.{Judging}
 use Rattle.pl_cli.specs.declared.judging.Ended as declared
 use Rattle.pl_cli.specs.declared.judging.Ended.TheVariants as ended
-use Rattle.pl_cli.specs.Output.{AtFault, cause_status, cut, items_judged, last_text, limit, lines, output, status_of}
-use Rattle.pl_cli.specs.Progress.{Closed, EndsAs, LostAtEnd, LostAtItem, ReadOf, RefusedIn, ShelfCause, SoFar, Taken, TakenCut, is_fault, last_cause, nothing_judged, verdicts_in}
-use Rattle.pl_cli.specs.Source.{TextAndStatus}
-use Rattle.pl_report.specs.Lines.{read_fault_text}
-use Rattle.pl_cli.proofs.Known.{end_known}
+use Rattle.pl_cli.specs.Output.{AtFault, Fault, cause, cause_status, cut, items_judged, last_text, limit, lines, output, status_of}
+use Rattle.pl_cli.specs.Promise.{Answers, IsFront}
+use Rattle.pl_cli.specs.Progress.{EndsAs, LostAtEnd, LostAtItem, ReadOf, RefusedIn, ShelfCause, SoFar, Taken, TakenCut, is_fault, last_cause, nothing_judged, verdicts_in}
 use Rattle.pl_cli.proofs.Lists.{accepted_all}
-use Rattle.pl_cli.proofs.Ends.{Finishes, cut_part, fault_text, finishes, rest_told}
+use Rattle.pl_cli.proofs.Ends.{Finishes, fault_cause, fault_text, finishes}
+
+-- the last line was written, or a part of it for which there was no room
+pub record Closed (old new : Option (List ℕ)) (room : Option ℕ) (last : List ℕ) (status answer : ℕ) : Type 0 where
+  pub done : answer ≢ 8 → (new ≡ plus old last) × (answer ≡ status)
+  pub part : answer ≡ 8 → Partly old new last
+  pub no_room : answer ≡ 8 → HasRoom room (length last) → ⊥
+
+pub closed_of : {O : Type 0} {T : sink.Ghosts O} {last : List ℕ} {status : ℕ} {old new : O} {answer : ℕ} →
+    Answers T last status old new answer → Closed (T.written old) (T.written new) (T.room old) last status answer
+closed_of a = record { done = λ n8. (a.written n8, a.answered n8); part = a.part; no_room = a.no_room }
+
+-- a file that is told, as the bytes that were read and the rest
+pub front_ahead : (read : List ℕ) (file rest : Option (List ℕ)) → IsFront read file rest → file ≡ ahead read rest
+front_ahead read file rest f = f.1 ∙ ap (ahead read) (sym f.2)
+
+some_same : (a b : List ℕ) (file : Option (List ℕ)) → file ≡ Some a → file ≡ Some b → a ≡ b
+some_same a b file h k = cc
 
 pub false_is_true : false ≡ true → ⊥
 false_is_true h = cc
@@ -45,7 +60,7 @@ not_fault ended.Fault answer f n7 n8 = absurd (n7 (f refl n8))
 not_fault ended.TooLong answer f n7 n8 = refl
 not_fault (ended.Refused s) answer f n7 n8 = refl
 
-was_opened : (opened : Bool) (read : List ℕ) (e : declared.Ended) → (opened ≡ false → (read ≡ []) × (is_fault e ≡ true)) → is_fault e ≡ false → opened ≡ true
+pub was_opened : (opened : Bool) (read : List ℕ) (e : declared.Ended) → (opened ≡ false → (read ≡ []) × (is_fault e ≡ true)) → is_fault e ≡ false → opened ≡ true
 was_opened true read e h fine = refl
 was_opened false read e h fine = absurd (false_is_true (sym fine ∙ (h refl).1))
 
@@ -55,8 +70,8 @@ pub taken_finishes : {p : Profile} {e : declared.Ended} {j : Judging} {k : engin
     Finishes p b j k (last_cause e j.reader) w w1 r r1
 taken_finishes {p} {e} {j} {k} {w} {w1} {r} {r1} {opened = opened} {rest = rest} t b told_is file_is fine =
     let o : opened ≡ true = was_opened opened t.read e t.nothing fine in
-    let q : (left : List ℕ) × (rest ≡ Some left) × (b ≡ (t.read ++ t.extra) ++ left) = rest_told (t.read ++ t.extra) b rest (sym file_is ∙ t.from_file told_is o) in
-    finishes b t.read t.extra q.0 e (subst (λ (x : Option (List ℕ)). EndsAs p e t.read t.extra x j k w w1 r r1) q.1 t.ends) t.size q.2 fine
+    let q = t.from_file told_is o in
+    finishes b t.read t.extra q.0 e (subst (λ (x : Option (List ℕ)). EndsAs p e t.read t.extra x j k w w1 r r1) q.2 t.ends) t.size (some_same b _ _ file_is q.1) fine
 
 pub top_exact : {p : Profile} {e : declared.Ended} {j : Judging} {k : engine.EngineKept} {w w1 w2 : Option (List ℕ)} {r r1 : Option ℕ} {told opened : Bool} {file rest : Option (List ℕ)} (answer : ℕ) →
     Taken p e j k w w1 r r1 told file opened rest →
@@ -74,13 +89,13 @@ top_exact {p} {e} {j} {w = w} {w2 = w2} answer t cl f told_is b file_is n7 n8 =
 -- what was read of a told file before a fault of the shelf
 fault_read : {p : Profile} {j : Judging} {k : engine.EngineKept} {w w1 : Option (List ℕ)} {r r1 : Option ℕ} {told opened : Bool} {file rest : Option (List ℕ)} →
     (t : Taken p ended.Fault j k w w1 r r1 told file opened rest) → (b : List ℕ) → told ≡ true → file ≡ Some b → ReadOf b opened rest t.read
-fault_read {rest = rest} t b told_is file_is = record {
-  from_file = λ o. sym file_is ∙ t.from_file told_is o ∙ ap (λ (l : List ℕ). ahead (t.read ++ l) rest) t.ends.0 ∙ ap (λ (l : List ℕ). ahead l rest) (append-nil t.read);
+fault_read {file = file} {rest} t b told_is file_is = record {
+  from_file = λ o. sym file_is ∙ front_ahead (t.read ++ t.extra) file rest (t.from_file told_is o) ∙ ap (λ (l : List ℕ). ahead (t.read ++ l) rest) t.ends.0 ∙ ap (λ (l : List ℕ). ahead l rest) (append-nil t.read);
   nothing = λ o. (t.nothing o).0;
 }
 
 -- lines, and then a part of the last one
-behind_lines : (w w1 w2 : Option (List ℕ)) (before last : List ℕ) → w1 ≡ plus w before → Partly w1 w2 last → Partly w w2 (before ++ last)
+pub behind_lines : (w w1 w2 : Option (List ℕ)) (before last : List ℕ) → w1 ≡ plus w before → Partly w1 w2 last → Partly w w2 (before ++ last)
 behind_lines w w1 w2 before last h part = record {
   part = before ++ part.part;
   missing = part.missing;
@@ -92,7 +107,8 @@ pub top_cut : {p : Profile} {j : Judging} {k : engine.EngineKept} {w w1 w2 : Opt
     Taken p e j k w w1 r r1 told file opened rest →
     Closed w1 w2 r1 (last_text j.items j.verdicts (last_cause e j.reader)) (cause_status j.verdicts (last_cause e j.reader)) answer →
     (answer ≡ 7 → is_fault e ≡ true) → told ≡ true → (b : List ℕ) → file ≡ Some b → answer ≡ 7 →
-    (read : List ℕ) × ReadOf b opened rest read × (w2 ≡ plus w (cut p read)) × engine.StandsFor k (history_after [] (reading read).items)
+    (read : List ℕ) × ReadOf b opened rest read × (cause p (reading read) Fault ≡ AtFault) × (w2 ≡ plus w (cut p read))
+    × engine.StandsFor k (history_after [] (reading read).items)
 top_cut ended.Whole answer t cl f told_is b file_is is7 = absurd (false_is_true (f is7))
 top_cut {p} {j} {w = w} {w2 = w2} ended.Fault answer t cl f told_is b file_is is7 =
     let n8 : answer ≢ 8 = omega arith in
@@ -101,68 +117,9 @@ top_cut {p} {j} {w = w} {w2 = w2} ended.Fault answer t cl f told_is b file_is is
     let last : List ℕ = last_text j.items j.verdicts AtFault in
     let written : w2 ≡ plus w (cut p t.read) =
     (cl.done n8).0 ∙ ap (λ (v : Option (List ℕ)). plus v last) s.written ∙ plus-plus w before last ∙ ap (plus w) (sym (fault_text t.read s)) in
-    (t.read, fault_read t b told_is file_is, written, s.engine_stands)
+    (t.read, fault_read t b told_is file_is, fault_cause t.read s, written, s.engine_stands)
 top_cut ended.TooLong answer t cl f told_is b file_is is7 = absurd (false_is_true (f is7))
 top_cut (ended.Refused s) answer t cl f told_is b file_is is7 = absurd (false_is_true (f is7))
-
-whole_part : {p : Profile} {e : declared.Ended} {j : Judging} {k : engine.EngineKept} {w w1 w2 : Option (List ℕ)} {r r1 : Option ℕ} {told opened : Bool} {file rest : Option (List ℕ)} {answer : ℕ} →
-    Taken p e j k w w1 r r1 told file opened rest →
-    Closed w1 w2 r1 (last_text j.items j.verdicts (last_cause e j.reader)) (cause_status j.verdicts (last_cause e j.reader)) answer →
-    (b : List ℕ) → told ≡ true → file ≡ Some b → is_fault e ≡ false → answer ≡ 8 → Partly w w2 (output p b)
-whole_part {p} {e} {j} {w = w} {w1 = w1} {w2 = w2} t cl b told_is file_is fine is8 =
-    let fin = taken_finishes t b told_is file_is fine in
-    subst (Partly w w2) (sym fin.text) (behind_lines w w1 w2 fin.before (last_text j.items j.verdicts (last_cause e j.reader)) fin.written (cl.part is8))
-
-pub top_part : {p : Profile} {j : Judging} {k : engine.EngineKept} {w w1 w2 : Option (List ℕ)} {r r1 : Option ℕ} {told opened : Bool} {file rest : Option (List ℕ)} (e : declared.Ended) (answer before now : ℕ) →
-    Taken p e j k w w1 r r1 told file opened rest →
-    Closed w1 w2 r1 (last_text j.items j.verdicts (last_cause e j.reader)) (cause_status j.verdicts (last_cause e j.reader)) answer →
-    ShelfCause e before now → told ≡ true → (b : List ℕ) → file ≡ Some b → answer ≡ 8 →
-    Partly w w2 (output p b) ⊎ (Rose before now × ((read : List ℕ) × ReadOf b opened rest read × Partly w w2 (cut p read)))
-top_part ended.Whole answer before now t cl s told_is b file_is is8 = inl (whole_part t cl b told_is file_is refl is8)
-top_part {p} {j} {w = w} {w1 = w1} {w2 = w2} ended.Fault answer before now t cl s told_is b file_is is8 =
-    inr (
-      s,
-      (
-        t.read,
-        fault_read t b told_is file_is,
-        subst (Partly w w2) (sym (fault_text t.read t.ends.1))
-            (behind_lines w w1 w2 (lines (verdicts_in p t.read)) (last_text j.items j.verdicts AtFault) t.ends.1.written (cl.part is8)),
-      ),
-    )
-top_part ended.TooLong answer before now t cl s told_is b file_is is8 = inl (whole_part t cl b told_is file_is refl is8)
-top_part (ended.Refused x) answer before now t cl s told_is b file_is is8 = inl (whole_part t cl b told_is file_is refl is8)
-
--- a capture that isn't there leaves only the line of a fault
-pub top_absent : {w w1 w2 : Option (List ℕ)} {r1 : Option ℕ} (j : Judging) (e : declared.Ended) (answer : ℕ) → e ≡ ended.Fault → w1 ≡ w →
-    Closed w1 w2 r1 (last_text j.items j.verdicts (last_cause e j.reader)) (cause_status j.verdicts (last_cause e j.reader)) answer →
-    TextAndStatus read_fault_text 7 w w2 answer
-top_absent j ended.Whole answer h same cl = absurd cc
-top_absent {w2 = w2} j ended.Fault answer h same cl =
-    (λ n8. ((cl.done n8).0 ∙ ap (λ (v : Option (List ℕ)). plus v read_fault_text) same, (cl.done n8).1), λ is8. subst (λ (v : Option (List ℕ)). Partly v w2 read_fault_text) same (cl.part is8))
-top_absent j ended.TooLong answer h same cl = absurd cc
-top_absent j (ended.Refused s) answer h same cl = absurd cc
-
-pub ended_is : (e : declared.Ended) → (let r : Result declared.Ended Failed = Ok e in r ≡ Ok ended.Fault) → e ≡ ended.Fault
-ended_is e h = cc
-
-pub not_ended : (f : Failed) → (let r : Result declared.Ended Failed = Err f in r ≡ Ok ended.Fault) → ⊥
-not_ended f h = cc
-
--- with room for the output the last line fits too
-pub top_room : {p : Profile} {e : declared.Ended} {j : Judging} {k : engine.EngineKept} {w w1 w2 : Option (List ℕ)} {r r1 : Option ℕ} {told opened : Bool} {file rest : Option (List ℕ)} {answer : ℕ} →
-    Taken p e j k w w1 r r1 told file opened rest →
-    Closed w1 w2 r1 (last_text j.items j.verdicts (last_cause e j.reader)) (cause_status j.verdicts (last_cause e j.reader)) answer →
-    (b : List ℕ) → told ≡ true → file ≡ Some b → is_fault e ≡ false → HasRoom r (length (output p b)) → answer ≢ 8
-top_room {p} {e} {j} {r = r} t cl b told_is file_is fine room is8 =
-    let fin = taken_finishes t b told_is file_is fine in
-    let last : List ℕ = last_text j.items j.verdicts (last_cause e j.reader) in
-    cl.no_room is8 (fin.room_left (length last) (subst (HasRoom r) (ap (λ (l : List ℕ). length l) fin.text ∙ length-append fin.before last) room))
-
-pub top_lost : {p : Profile} {k : engine.EngineKept} {w w1 : Option (List ℕ)} {r : Option ℕ} {told : Bool} {file rest : Option (List ℕ)} →
-    TakenCut p k w w1 r told file rest → (b : List ℕ) → told ≡ true → file ≡ Some b → Partly w w1 (output p b) × (HasRoom r (length (output p b)) → ⊥)
-top_lost {rest = rest} t b told_is file_is =
-    let q : (left : List ℕ) × (rest ≡ Some left) × (b ≡ t.read ++ left) = rest_told t.read b rest (sym file_is ∙ t.from_file told_is) in
-    cut_part b t.read q.0 t.cut q.2 t.size
 
 -- the sink failed within the last line behind these bytes
 so_far_lost : {p : Profile} {j : Judging} {k : engine.EngineKept} {w w1 w2 : Option (List ℕ)} {r r1 : Option ℕ} (read last : List ℕ) →
@@ -197,11 +154,11 @@ pub top_lost_end : {p : Profile} {j : Judging} {k : engine.EngineKept} {w w1 w2 
     Closed w1 w2 r1 (last_text j.items j.verdicts (last_cause e j.reader)) (cause_status j.verdicts (last_cause e j.reader)) answer →
     told ≡ true → (b : List ℕ) → file ≡ Some b → answer ≡ 8 →
     (read : List ℕ) × ReadOf b opened rest read × (LostAtItem p (reading (take limit read)).items k w w2 ⊎ LostAtEnd p (reading (take limit read)).items k w w2)
-top_lost_end {p} {j} {k} {w} {w1} {w2} {r} {r1} {opened = opened} {rest = rest} e answer t cl told_is b file_is is8 =
+top_lost_end {p} {j} {k} {w} {w1} {w2} {r} {r1} {opened = opened} {file} {rest} e answer t cl told_is b file_is is8 =
     let both = by e t.ends in (
       t.read ++ t.extra,
       record {
-        from_file = λ o. sym file_is ∙ t.from_file told_is o;
+        from_file = λ o. sym file_is ∙ front_ahead (t.read ++ t.extra) file rest (t.from_file told_is o);
         nothing = λ o. ap (λ (l : List ℕ). l ++ t.extra) (t.nothing o).0 ∙ no_extra e (t.nothing o).1 t.ends;
       },
       inr (subst (λ (l : List ℕ). LostAtEnd p (reading l).items k w w2) (sym (front_judged t.read t.extra t.size both.0)) (both.1 (cl.part is8))),
@@ -227,10 +184,10 @@ top_lost_end {p} {j} {k} {w} {w1} {w2} {r} {r1} {opened = opened} {rest = rest} 
 pub top_lost_item : {p : Profile} {k : engine.EngineKept} {w w1 : Option (List ℕ)} {r : Option ℕ} {told opened : Bool} {file rest : Option (List ℕ)} →
     TakenCut p k w w1 r told file rest → opened ≡ true → told ≡ true → (b : List ℕ) → file ≡ Some b →
     (read : List ℕ) × ReadOf b opened rest read × (LostAtItem p (reading (take limit read)).items k w w1 ⊎ LostAtEnd p (reading (take limit read)).items k w w1)
-top_lost_item {p} {k} {w} {w1} t is_open told_is b file_is =
+top_lost_item {p} {k} {w} {w1} {file = file} {rest} t is_open told_is b file_is =
     let front : t.read ++ [] ≡ take limit t.read = append-nil t.read ∙ sym (take_all limit t.read t.size) in (
       t.read,
-      record { from_file = λ o. sym file_is ∙ t.from_file told_is; nothing = λ closed. absurd (false_is_true (sym closed ∙ is_open)) },
+      record { from_file = λ o. sym file_is ∙ front_ahead t.read file rest (t.from_file told_is); nothing = λ closed. absurd (false_is_true (sym closed ∙ is_open)) },
       inl (subst (λ (l : List ℕ). LostAtItem p (reading l).items k w w1) front (t.cut.at_item [])),
     )
 
@@ -260,24 +217,3 @@ so_far_nothing {k} {w} {r} j start stands = subst (λ (x : Judging). SoFar k.pro
       written = plus-nothing w ∙ sym (ap (λ (xs : List Entry). plus w (lines (verdicts_after k.profile [] xs))) none);
       room_left = λ n room. subst (λ (xs : List Entry). HasRoom r (length (lines (verdicts_after k.profile [] xs)) + n) → HasRoom r n) (sym none) (λ h. subst (HasRoom r) (zero-add n) h) room;
     }
-
--- the status of the last line is known
-last_known : {p : Profile} {j : Judging} {k : engine.EngineKept} {w w1 : Option (List ℕ)} {r r1 : Option ℕ} {told opened : Bool} {file rest : Option (List ℕ)} (e : declared.Ended) →
-    Taken p e j k w w1 r r1 told file opened rest → cause_status j.verdicts (last_cause e j.reader) ≤ 7
-last_known {j = j} ended.Whole t =
-    let k = end_known j.verdicts j.reader.place j.reader.phase (reading t.read) t.ends.2.reader_stands t.ends.2.goes_on in omega arith
-last_known ended.Fault t = omega arith
-last_known ended.TooLong t = omega arith
-last_known (ended.Refused s) t = let k = t.ends.1.known in omega arith
-
-pub top_known : {p : Profile} {e : declared.Ended} {j : Judging} {k : engine.EngineKept} {w w1 w2 : Option (List ℕ)} {r r1 : Option ℕ} {told opened : Bool} {file rest : Option (List ℕ)} (answer : ℕ) →
-    Taken p e j k w w1 r r1 told file opened rest →
-    Closed w1 w2 r1 (last_text j.items j.verdicts (last_cause e j.reader)) (cause_status j.verdicts (last_cause e j.reader)) answer → answer ≤ 8
-top_known {e = e} answer t cl = by (cases answer)
-  where
-    cases : (n : ℕ) → (n ≡ 8) ⊎ (n ≢ 8)
-    cases n = Rattle.std.proofs.lemmas.Bool.cases_eq n 8
-
-    by : (answer ≡ 8) ⊎ (answer ≢ 8) → answer ≤ 8
-    by (inl is8) = omega arith
-    by (inr n8) = omega (arith, (cl.done n8).1, last_known e t)

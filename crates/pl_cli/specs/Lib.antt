@@ -1,4 +1,5 @@
 pub mod Output
 pub mod Progress
+pub mod Promise
 pub mod Source
 pub mod Words

@@ -1,5 +1,5 @@
 -- How far judging has come, whatever comes after.
-use Rattle.std.specs.Prelude.{◌≡◌, ◌≢◌, ℕ, ◌+◌, ◌<◌, ◌≤◌, Bool, true, false, List, [], ◌∷◌, ◌++◌, length, Option, Some, None, Result, Ok, Err}
+use Rattle.std.specs.Prelude.{◌≡◌, ℕ, ◌+◌, ◌<◌, ◌≤◌, Bool, true, false, List, [], ◌∷◌, ◌++◌, length, Option, Some, None, Result, Ok, Err}
 use Rattle.pl_base.specs.declared.stop.Stop.{Stop}
 use Rattle.pl_base.specs.declared.verdict.Verdict.{Verdict}
 use Rattle.pl_io.specs.declared.failed.Failed.{Failed}
@@ -20,6 +20,7 @@ use Rattle.pl_cli.specs.declared.judging.Judging.{Judging}
 use Rattle.pl_cli.specs.declared.judging.Ended.{Ended}
 use Rattle.pl_cli.specs.declared.judging.Ended.TheVariants as ended
 use Rattle.pl_cli.specs.Output.{Cause, AtEnd, AtRefusal, AtLimit, AtFault, How, items_judged, limit, lines, status, stop_status, text, verdicts_of}
+use Rattle.pl_cli.specs.Promise.{IsFront}
 use Rattle.pl_report.specs.Lines.{stop_text}
 
 -- what the items of these bytes break
@@ -160,14 +161,14 @@ pub record Taken (profile : Profile) (ended : Ended) (judging : Judging) (kept :
   pub read : List ℕ
   pub extra : List ℕ
   pub size : length read ≤ limit
-  pub from_file : told ≡ true → opened ≡ true → file ≡ ahead (read ++ extra) rest
+  pub from_file : told ≡ true → opened ≡ true → IsFront (read ++ extra) file rest
   pub nothing : opened ≡ false → (read ≡ []) × (is_fault ended ≡ true)
   pub ends : EndsAs profile ended read extra rest judging kept old new old_room new_room
 
 pub record TakenCut (profile : Profile) (kept : engine.EngineKept) (old new : Option (List ℕ)) (old_room : Option ℕ) (told : Bool) (file rest : Option (List ℕ)) : Type 0 where
   pub read : List ℕ
   pub size : length read ≤ limit
-  pub from_file : told ≡ true → file ≡ ahead read rest
+  pub from_file : told ≡ true → IsFront read file rest
   pub cut : CutIn profile read kept old new old_room
 
 -- a fault of the shelf is answered only where it was counted, and nothing else is counted
@@ -189,12 +190,6 @@ last_cause ended.Whole standing = cause_of_step (reader.finished_step standing.p
 last_cause ended.Fault standing = AtFault
 last_cause ended.TooLong standing = AtLimit
 last_cause (ended.Refused s) standing = AtRefusal s
-
--- the last line was written, or a part of it for which there was no room
-pub record Closed (old new : Option (List ℕ)) (room : Option ℕ) (last : List ℕ) (status answer : ℕ) : Type 0 where
-  pub done : answer ≢ 8 → (new ≡ plus old last) × (answer ≡ status)
-  pub part : answer ≡ 8 → Partly old new last
-  pub no_room : answer ≡ 8 → HasRoom room (length last) → ⊥
 
 -- These bytes were read of the file: they and the rest that the shelf tells are the file, and there are none
 -- where the file couldn't be opened.

@@ -1,14 +1,16 @@
 -- Where the profile of a command comes from.
-use Rattle.std.specs.Prelude.{◌≡◌, ◌≢◌, ℕ, ◌+◌, ◌⊎◌, List, [], ◌++◌, length, codes, Option, Some, IsSome, Result, Ok, Err, bytes_eq, if◌then◌else◌, Bool, true, false}
+use Rattle.std.specs.Prelude.{◌≡◌, ◌≢◌, ℕ, ◌+◌, ◌⊎◌, List, length, codes, Option, Some, IsSome, Result, Ok, Err, bytes_eq, if◌then◌else◌}
 use Rattle.std.specs.Option.{option_map}
+use Rattle.pl_io.specs.declared.shelf.Shelf as shelf
+use Rattle.pl_io.specs.declared.sink.Sink as sink
 use Rattle.pl_io.specs.Faults.{Rose}
-use Rattle.pl_io.specs.Told.{plus, ahead, AtEnd, Partly}
+use Rattle.pl_io.specs.Told.{ahead, AtEnd}
 use Rattle.pl_profile.specs.declared.error.ProfileError.{ProfileError}
 use Rattle.pl_profile.specs.declared.error.ProfileError.TheVariants.{NotToml, UnknownKey, WrongType, OutOfRange, TooLong, Memory}
 use Rattle.pl_profile.specs.declared.profile.Profile.{Profile}
 use Rattle.pl_profile.specs.ProfileOf.{longest_text, profile_of, usual_profile}
 use Rattle.pl_report.specs.Lines.{profile_error_text, read_fault_text}
-use Rattle.pl_cli.specs.Progress.{ReadOf}
+use Rattle.pl_cli.specs.Promise.{Answers, ProfileIs, ProfileUnread, ReadsProfile}
 use Rattle.pl_cli.specs.declared.profile.NoProfile.{NoProfile}
 use Rattle.pl_cli.specs.declared.profile.NoProfile.TheVariants.{Unreadable, Refused}
 
@@ -47,23 +49,15 @@ pub record IsText (text : List ℕ) (rest rest' : Option (List ℕ)) : Type 0 wh
   pub rest_is : rest ≡ ahead text rest'
   pub enough : AtEnd rest' ⊎ (length text ≡ longest_text + 1)
 
--- the line of a profile's refusal and its status, where writing didn't fail; nothing for want of memory
-abbrev pub TextAndStatus : List ℕ → ℕ → Option (List ℕ) → Option (List ℕ) → ℕ → Type 0
-TextAndStatus text status old new answer = (answer ≢ 8 → (new ≡ plus old text) × (answer ≡ status)) × (answer ≡ 8 → Partly old new text)
-
-abbrev pub RefusesProfile : NoProfile → Option (List ℕ) → Option (List ℕ) → ℕ → Type 0
-RefusesProfile Unreadable old new answer = TextAndStatus read_fault_text 7 old new answer
-RefusesProfile (Refused Memory) old new answer = (new ≡ old) × (answer ≡ 9)
-RefusesProfile (Refused NotToml) old new answer = TextAndStatus (profile_error_text 1) 3 old new answer
-RefusesProfile (Refused UnknownKey) old new answer = TextAndStatus (profile_error_text 2) 3 old new answer
-RefusesProfile (Refused WrongType) old new answer = TextAndStatus (profile_error_text 3) 3 old new answer
-RefusesProfile (Refused OutOfRange) old new answer = TextAndStatus (profile_error_text 4) 3 old new answer
-RefusesProfile (Refused TooLong) old new answer = TextAndStatus (profile_error_text 5) 3 old new answer
-
--- The file of the profile couldn't be opened or read: the shelf tells what is left of it. A dash names no file.
-pub record ProfileUnread (files : List ℕ → Option (List ℕ)) (name : List ℕ) (opened : Bool) (rest : Option (List ℕ)) : Type 0 where
-  pub is_file : bytes_eq name (codes "-") ≡ false
-  pub left : (text : List ℕ) → files name ≡ Some text → (read : List ℕ) × ReadOf text opened rest read
+-- The line of a profile that can't be had, and its status; nothing for want of memory.
+abbrev pub RefusesProfile : {O : Type 0} → sink.Ghosts O → NoProfile → O → O → ℕ → Type 0
+RefusesProfile T Unreadable old new answer = Answers T read_fault_text 7 old new answer
+RefusesProfile T (Refused Memory) old new answer = (new ≡ old) × (answer ≡ 9)
+RefusesProfile T (Refused NotToml) old new answer = Answers T (profile_error_text 1) 3 old new answer
+RefusesProfile T (Refused UnknownKey) old new answer = Answers T (profile_error_text 2) 3 old new answer
+RefusesProfile T (Refused WrongType) old new answer = Answers T (profile_error_text 3) 3 old new answer
+RefusesProfile T (Refused OutOfRange) old new answer = Answers T (profile_error_text 4) 3 old new answer
+RefusesProfile T (Refused TooLong) old new answer = Answers T (profile_error_text 5) 3 old new answer
 
 abbrev pub IfUnreadable : {T : Type 0} → Result T NoProfile → Type 0 → Type 0
 IfUnreadable (Ok profile) P = Unit {0}
@@ -76,18 +70,13 @@ IfReadable (Ok profile) P = P
 IfReadable (Err (Refused error)) P = P
 IfReadable (Err Unreadable) P = Unit {0}
 
--- A front of the file was read, and this rest of it is left: not the whole, as just after the opening, unless it is empty.
-pub record IsBegun (file rest : Option (List ℕ)) : Type 0 where
-  pub read : List ℕ
-  pub left : List ℕ
-  pub file_is : file ≡ Some (read ++ left)
-  pub rest_is : rest ≡ Some left
-  pub begun : read ≡ [] → left ≡ []
+-- A text was judged, which is all that was left of the file, where that is told.
+abbrev pub IsOfText : Result Profile NoProfile → Option (List ℕ) → Type 0
+IsOfText result rest =
+    (text : List ℕ) × ((whole : List ℕ) → rest ≡ Some whole → text ≡ whole) × IsNamed (Some (profile_of text)) result
 
--- Nothing but the profile was opened and read. Where a dash names it, the shelf is as it was. Where a file does, a file
--- stands open; where the shelf tells its files, that is the profile's, of which a front was read.
-pub record OnlyProfileRead {S : Type 0} (before now : S) (told : Bool) (files : List ℕ → Option (List ℕ)) (name : List ℕ)
-    (opened : Bool) (rest : Option (List ℕ)) : Type 0 where
-  pub dash : bytes_eq name (codes "-") ≡ true → now ≡ before
-  pub file : bytes_eq name (codes "-") ≡ false → opened ≡ true
-  pub only : bytes_eq name (codes "-") ≡ false → told ≡ true → IsBegun (files name) rest
+-- What became of the profile that a word names.
+abbrev pub ProfileCame : {H : Type 0} → shelf.Ghosts H → List ℕ → H → H → Result Profile NoProfile → Type 0
+ProfileCame S name old new (Ok profile) = ProfileIs S name (Ok profile) old × ReadsProfile S name old new
+ProfileCame S name old new (Err (Refused e)) = (e ≢ Memory → ProfileIs S name (Err e) old) × ReadsProfile S name old new
+ProfileCame S name old new (Err Unreadable) = ProfileUnread S name old new

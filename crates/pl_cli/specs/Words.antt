@@ -1,21 +1,19 @@
--- The words of the command line, and what a clean run says.
-use Rattle.std.specs.Prelude.{◌≡◌, ◌≢◌, ℕ, ◌<◌, ◌≤◌, Bool, true, List, [], ◌∷◌, codes, length, Option, Some, None, Ok}
+-- What `run` says in words of the profile and of the capture, where the shelf tells its files.
+use Rattle.std.specs.Prelude.{◌≡◌, ◌≢◌, ℕ, ◌<◌, ◌≤◌, ◌⊎◌, Bool, true, List, [], length, Option, Some, None, IsSome, Result, Ok, Err, if◌then◌else◌}
+use Rattle.pl_io.specs.declared.shelf.Shelf as shelf
+use Rattle.pl_io.specs.declared.sink.Sink as sink
+use Rattle.pl_io.specs.Faults.{last_count, raised}
+use Rattle.pl_io.specs.Told.{plus, HasRoom, Partly}
 use Rattle.pl_capture.specs.Reading.{reading, Ended}
-use Rattle.pl_io.specs.Faults.{last_count}
-use Rattle.pl_io.specs.Told.{plus, Partly}
+use Rattle.pl_profile.specs.Refusal.{number_of}
+use Rattle.pl_profile.specs.declared.error.ProfileError.{ProfileError}
 use Rattle.pl_profile.specs.declared.profile.Profile.{Profile}
 use Rattle.pl_engine.specs.Verdicts.{refusal, verdicts_after}
-use Rattle.pl_cli.specs.Output.{cut, limit}
+use Rattle.pl_report.specs.Lines.{profile_error_text, read_fault_text}
+use Rattle.pl_cli.specs.Output.{AtFault, Fault, cause, limit, output}
 use Rattle.pl_cli.specs.Progress.{ReadOf}
+use Rattle.pl_cli.specs.Promise.{IsCheck, is_dash}
 use Rattle.pl_cli.specs.Source.{profile_under}
-
--- `check PROFILE CAPTURE`
-abbrev pub IsCheck : List (List ℕ) → List ℕ → List ℕ → Type 0
-IsCheck words profile capture = words ≡ codes "check" ∷ profile ∷ capture ∷ []
-
--- none of the commands
-abbrev pub IsNoCommand : List (List ℕ) → Type 0
-IsNoCommand words = (profile capture : List ℕ) → IsCheck words profile capture → ⊥
 
 -- The words are `check PROFILE CAPTURE`, and the shelf tells its files: the profile is this one, and the
 -- capture has these bytes.
@@ -31,18 +29,33 @@ pub record Checks (words : List (List ℕ)) (is_told : Bool) (files : List ℕ �
 abbrev pub NoFault : ℕ → Type 0
 NoFault answer = (answer ≢ 7) × (answer ≢ 8) × (answer ≢ 9)
 
+-- the status of a capture that was judged: 0, 1, 4, 5 or 6
+abbrev pub IsJudged : ℕ → Type 0
+IsJudged answer = (answer ≤ 1) ⊎ ((4 ≤ answer) × (answer ≤ 6))
+
 -- exactly this text was appended, and this status answered
 abbrev pub Gives : List ℕ → ℕ → Option (List ℕ) → Option (List ℕ) → ℕ → Type 0
 Gives text status old new answer = (new ≡ plus old text) × (answer ≡ status)
 
--- These bytes of the capture were read, as far as the shelf tells it, and their text was appended; or a part of it.
-abbrev pub GivesCut : Profile → List ℕ → Bool → Option (List ℕ) → Option (List ℕ) → Option (List ℕ) → Type 0
-GivesCut profile bytes opened rest old new =
-    (read : List ℕ) × ReadOf bytes opened rest read × (new ≡ plus old (cut profile read))
+-- a part of this text was appended, for all of which there was no room
+pub record GivesPart {O : Type 0} (S : sink.Ghosts O) (text : List ℕ) (old new : O) : Type 0 where
+  pub part : Partly (S.written old) (S.written new) text
+  pub no_room : HasRoom (S.room old) (length text) → ⊥
 
-abbrev pub GivesPartOfCut : Profile → List ℕ → Bool → Option (List ℕ) → Option (List ℕ) → Option (List ℕ) → Type 0
-GivesPartOfCut profile bytes opened rest old new =
-    (read : List ℕ) × ReadOf bytes opened rest read × Partly old new (cut profile read)
+-- how often a shelf was asked for a file once the profile of this name was read: once more, unless a dash names it
+abbrev pub after_profile : List ℕ → ℕ → ℕ
+after_profile name opens = if is_dash name then opens else raised opens
+
+-- The profile's file was asked for, once, and then the capture, once: that is the one that is open, if any is.
+pub record OpensBoth {H : Type 0} (S : shelf.Ghosts H) (profile capture : List ℕ) (old new : H) : Type 0 where
+  pub once_each : S.opens new ≡ raised (after_profile profile (S.opens old))
+  pub named : S.told old ≡ true → S.is_open new ≡ true → S.open_name new ≡ Some capture
+
+-- The capture couldn't be read to its end: these bytes of it were, in which nothing is refused.
+pub record CutAt {H : Type 0} (S : shelf.Ghosts H) (p : Profile) (profile capture bytes read : List ℕ) (old new : H) : Type 0 where
+  pub opens : OpensBoth S profile capture old new
+  pub read_of : ReadOf bytes (S.is_open new) (S.rest new) read
+  pub none_refused : cause p (reading read) Fault ≡ AtFault
 
 -- The whole file was judged, it ended with its end record, and no item breaks a rule or is refused.
 pub record RunsCleanly (profile : Profile) (file : List ℕ) : Type 0 where
@@ -54,3 +67,16 @@ pub record RunsCleanly (profile : Profile) (file : List ℕ) : Type 0 where
 -- the count didn't rise in the call, and isn't at its last value
 abbrev pub IsUnrisen : ℕ → ℕ → Type 0
 IsUnrisen before now = (now ≡ before) × (now < last_count)
+
+-- The files that a command needs are there: that of its profile, and the capture, unless the profile is refused.
+abbrev pub AreThere : Option (Result Profile ProfileError) → Option (List ℕ) → Type 0
+AreThere None capture = ⊥
+AreThere (Some (Err e)) capture = Unit {0}
+AreThere (Some (Ok profile)) capture = IsSome capture
+
+-- What a command writes where no fault comes but that of a file that isn't there.
+abbrev pub whole_text : Option (Result Profile ProfileError) → Option (List ℕ) → List ℕ
+whole_text None capture = read_fault_text
+whole_text (Some (Err e)) capture = profile_error_text (number_of e)
+whole_text (Some (Ok profile)) None = read_fault_text
+whole_text (Some (Ok profile)) (Some bytes) = output profile bytes

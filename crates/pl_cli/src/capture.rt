@@ -35,6 +35,8 @@ pub(crate) fn read_pieces<H: Shelf, O: Sink>(
     ensures judged { (p : Profile) → SoFar p [] judging.old engine.old (O.written out.old) (O.written out.old) (O.room out.old) (O.room out.old) →
         ReadJudged p result judging.new engine.new (O.written out.old) (O.written out.new) (O.room out.old) (O.room out.new) (H.rest shelf.old) (H.rest shelf.new) }
     ensures opened { H.is_open shelf.new ≡ true }
+    ensures opens { H.opens shelf.new ≡ H.opens shelf.old }
+    ensures name_kept { H.open_name shelf.new ≡ H.open_name shelf.old }
     ensures never_fails { H.sure shelf.old ≡ true → IfOk result (λ ended. is_fault ended ≡ false) }
     ensures shelf_cause { IfOk result (λ ended. ShelfCause ended (H.faults shelf.old) (H.faults shelf.new)) }
     ensures shelf_kept { OnErr result (H.faults shelf.new ≡ H.faults shelf.old) }
@@ -75,6 +77,8 @@ pub(crate) fn read_front<H: Shelf>(
     ensures bytes { IfOk result (λ n. H.rest shelf.old ≡ ahead (take n buffer.new) (H.rest shelf.new)) }
     ensures end { IfOk result (λ n. n ≡ 0 → AtEnd (H.rest shelf.old)) }
     ensures err { OnErr result (H.rest shelf.new ≡ H.rest shelf.old) }
+    ensures opens { H.opens shelf.new ≡ H.opens shelf.old }
+    ensures name_kept { H.open_name shelf.new ≡ H.open_name shelf.old }
     ensures still_told { H.told shelf.new ≡ H.told shelf.old }
     ensures files { (other : List ℕ) → H.file shelf.new other ≡ H.file shelf.old other }
     ensures never_fails { H.sure shelf.old ≡ true → IsOk result }
@@ -90,6 +94,8 @@ fn look_behind<H: Shelf>(shelf: &mut H, buffer: &mut [u8]) -> Ended
     requires some { 0 < length buffer.old }
     ensures opened { H.is_open shelf.new ≡ true }
     ensures bytes { (extra : List ℕ) × (H.rest shelf.old ≡ ahead extra (H.rest shelf.new)) × LooksBehind result extra (H.rest shelf.new) }
+    ensures opens { H.opens shelf.new ≡ H.opens shelf.old }
+    ensures name_kept { H.open_name shelf.new ≡ H.open_name shelf.old }
     ensures never_fails { H.sure shelf.old ≡ true → is_fault result ≡ false }
     ensures cause { ShelfCause result (H.faults shelf.old) (H.faults shelf.new) }
 {

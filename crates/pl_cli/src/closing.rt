@@ -1,9 +1,9 @@
 //! The last line, and the status with which it stands.
 ghost use Rattle.std.specs.Prelude.{◌≡◌, ◌≢◌, true};
-ghost use Rattle.pl_io.specs.Faults.{Rose};
 ghost use Rattle.pl_report.specs.Lines.{stop_text};
 ghost use Rattle.pl_cli.specs.Output.{cause_status, last_text, stop_status};
-ghost use Rattle.pl_cli.specs.Progress.{Closed, is_fault, last_cause};
+ghost use Rattle.pl_cli.specs.Progress.{is_fault, last_cause};
+ghost use Rattle.pl_cli.specs.Promise.{Answers};
 
 use crate::judging::{Ended, Judging};
 use crate::status;
@@ -14,13 +14,10 @@ use pl_report::{closing_line, length_line, read_fault_line, stop_line};
 
 /// Writes the last line of a capture, and answers the status.
 pub(crate) fn close<O: Sink>(judging: &mut Judging, ended: Ended, out: &mut O) -> u8
-    ensures closed { Closed (O.written out.old) (O.written out.new) (O.room out.old)
-        (last_text judging.old.items judging.old.verdicts (last_cause ended judging.old.reader))
-        (cause_status judging.old.verdicts (last_cause ended judging.old.reader)) result }
+    ensures closed { Answers O.Sink (last_text judging.old.items judging.old.verdicts (last_cause ended judging.old.reader))
+        (cause_status judging.old.verdicts (last_cause ended judging.old.reader)) out.old out.new result }
     ensures fault { result ≡ 7 → is_fault ended ≡ true }
     ensures faulted { is_fault ended ≡ true → result ≢ 8 → result ≡ 7 }
-    ensures rose { result ≡ 8 → Rose (O.faults out.old) (O.faults out.new) }
-    ensures kept { result ≢ 8 → O.faults out.new ≡ O.faults out.old }
 {
     match ended {
         Ended::Whole => close_whole(judging, out),
@@ -32,12 +29,9 @@ pub(crate) fn close<O: Sink>(judging: &mut Judging, ended: Ended, out: &mut O) -
 
 /// The last line of a file that was read to its end: the capture may lack its own end.
 fn close_whole<O: Sink>(judging: &mut Judging, out: &mut O) -> u8
-    ensures closed { Closed (O.written out.old) (O.written out.new) (O.room out.old)
-        (last_text judging.old.items judging.old.verdicts (last_cause Ended.Whole judging.old.reader))
-        (cause_status judging.old.verdicts (last_cause Ended.Whole judging.old.reader)) result }
+    ensures closed { Answers O.Sink (last_text judging.old.items judging.old.verdicts (last_cause Ended.Whole judging.old.reader))
+        (cause_status judging.old.verdicts (last_cause Ended.Whole judging.old.reader)) out.old out.new result }
     ensures no_fault { result ≢ 7 }
-    ensures rose { result ≡ 8 → Rose (O.faults out.old) (O.faults out.new) }
-    ensures kept { result ≢ 8 → O.faults out.new ≡ O.faults out.old }
 {
     match judging.reader.finish() {
         Step::Bad(stop) => refuse(&stop, out),
@@ -55,10 +49,8 @@ fn close_whole<O: Sink>(judging: &mut Judging, out: &mut O) -> u8
 
 /// Writes the line of a refusal, and answers its status.
 fn refuse<O: Sink>(stop: &Stop, out: &mut O) -> u8
-    ensures closed { Closed (O.written out.old) (O.written out.new) (O.room out.old) (stop_text stop.now) (stop_status stop.now) result }
+    ensures closed { Answers O.Sink (stop_text stop.now) (stop_status stop.now) out.old out.new result }
     ensures no_fault { result ≢ 7 }
-    ensures rose { result ≡ 8 → Rose (O.faults out.old) (O.faults out.new) }
-    ensures kept { result ≢ 8 → O.faults out.new ≡ O.faults out.old }
 {
     let status = match stop {
         Stop::Malformed(_, _) => status::MALFORMED,
@@ -72,10 +64,8 @@ fn refuse<O: Sink>(stop: &Stop, out: &mut O) -> u8
 /// Writes the last line. The status is the given one, or that of a fault of the sink.
 pub(crate) fn write_last<O: Sink>(out: &mut O, line: &str, status: u8) -> u8
     requires { status ≢ 8 }
-    ensures closed { Closed (O.written out.old) (O.written out.new) (O.room out.old) line.now status result }
+    ensures closed { Answers O.Sink line.now status out.old out.new result }
     ensures known { result ≢ 8 → result ≡ status }
-    ensures rose { result ≡ 8 → Rose (O.faults out.old) (O.faults out.new) }
-    ensures kept { result ≢ 8 → O.faults out.new ≡ O.faults out.old }
 {
     match write_all(out, line.as_bytes()) {
         Ok(()) => status,

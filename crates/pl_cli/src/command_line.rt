@@ -1,14 +1,15 @@
 //! The top call: from the words of the command line to the exit status.
-ghost use Rattle.std.specs.Prelude.{◌≡◌, ◌≢◌, ◌⊎◌, List, ℕ, IsTrue, not, true, None, Some, Err, IsSome, length, map};
+ghost use Rattle.std.specs.Prelude.{◌≡◌, ◌≢◌, ◌⊎◌, ◌≤◌, List, ℕ, IsTrue, not, true, None, Some, Ok, Err, length, map};
 ghost use Rattle.pl_io.specs.Faults.{Rose};
-ghost use Rattle.pl_io.specs.Told.{plus, HasRoom, Partly};
+ghost use Rattle.pl_io.specs.Told.{plus, HasRoom};
 ghost use Rattle.pl_profile.specs.Refusal.{number_of};
 ghost use Rattle.pl_profile.specs.declared.error.ProfileError as declared;
 ghost use Rattle.pl_profile.specs.declared.profile.Profile as named;
 ghost use Rattle.pl_report.specs.Lines.{profile_error_text, read_fault_text, usage_text};
-ghost use Rattle.pl_cli.specs.Output.{output, status_of};
-ghost use Rattle.pl_cli.specs.Source.{OnlyProfileRead, ProfileUnread, TextAndStatus, profile_under};
-ghost use Rattle.pl_cli.specs.Words.{Checks, Gives, GivesCut, GivesPartOfCut, IsCheck, IsNoCommand, IsUnrisen, NoFault, RunsCleanly};
+ghost use Rattle.pl_cli.specs.Output.{cut, output, status_of};
+ghost use Rattle.pl_cli.specs.Promise.{Answers, IsCheck, IsNoCommand, Opens, ProfileUnread, ReadsProfile, Runs};
+ghost use Rattle.pl_cli.specs.Source.{profile_under};
+ghost use Rattle.pl_cli.specs.Words.{AreThere, Checks, CutAt, Gives, GivesPart, IsJudged, IsUnrisen, NoFault, OpensBoth, RunsCleanly, whole_text};
 
 use crate::checking::check;
 use crate::closing::write_last;
@@ -23,6 +24,9 @@ use std::alloc::Global;
 /// its bytes are cut, what is written is exactly the lines that the rules give over the whole list of items, and
 /// then the closing line or that of the refusal.
 pub fn run<H: Shelf, O: Sink>(alloc: Global, words: &[&str], shelf: &mut H, out: &mut O) -> u8
+    // All that is promised, whatever the words are and whatever it comes to. What follows is what that says.
+    ensures runs { Runs H.Shelf O.Sink (map (λ w. w.now) words.now) shelf.old shelf.new out.old out.new result }
+
     // 1. Where nothing failed, the lines are the output for the whole file, and so is the status. A profile that
     // is refused has its line, and words that are no command the usage line.
     ensures exact { (p : named.Profile) (b : List ℕ) → Checks (map (λ w. w.now) words.now) (H.told shelf.old) (H.file shelf.old) p b →
@@ -30,7 +34,7 @@ pub fn run<H: Shelf, O: Sink>(alloc: Global, words: &[&str], shelf: &mut H, out:
     ensures refused { (profile capture : List ℕ) → IsCheck (map (λ w. w.now) words.now) profile capture → H.told shelf.old ≡ true →
         (e : declared.ProfileError) → profile_under (H.file shelf.old) profile ≡ Some (Err e) →
         NoFault result → Gives (profile_error_text (number_of e)) 3 (O.written out.old) (O.written out.new) result }
-    ensures usage { IsNoCommand (map (λ w. w.now) words.now) → TextAndStatus usage_text 2 (O.written out.old) (O.written out.new) result }
+    ensures usage { IsNoCommand (map (λ w. w.now) words.now) → Answers O.Sink usage_text 2 out.old out.new result }
 
     // 2. Status 0: the capture was read to its end, it ended with its end record, and no rule breaks at any item.
     ensures clean { (p : named.Profile) (b : List ℕ) → Checks (map (λ w. w.now) words.now) (H.told shelf.old) (H.file shelf.old) p b → result ≡ 0 → RunsCleanly p b }
@@ -39,44 +43,62 @@ pub fn run<H: Shelf, O: Sink>(alloc: Global, words: &[&str], shelf: &mut H, out:
     // of what was read of the capture, or `read fault` alone where the profile couldn't be read; or a part of it.
     ensures read_fault { result ≡ 7 → Rose (H.faults shelf.old) (H.faults shelf.new) }
     ensures cut_short { (p : named.Profile) (b : List ℕ) (names : Checks (map (λ w. w.now) words.now) (H.told shelf.old) (H.file shelf.old) p b) → result ≡ 7 →
-        (ProfileUnread (H.file shelf.old) names.profile_name (H.is_open shelf.new) (H.rest shelf.new) × (O.written out.new ≡ plus (O.written out.old) read_fault_text))
-        ⊎ GivesCut p b (H.is_open shelf.new) (H.rest shelf.new) (O.written out.old) (O.written out.new) }
+        (ProfileUnread H.Shelf names.profile_name shelf.old shelf.new × (O.written out.new ≡ plus (O.written out.old) read_fault_text))
+        ⊎ ((read : List ℕ) × CutAt H.Shelf p names.profile_name names.capture_name b read shelf.old shelf.new
+        × (O.written out.new ≡ plus (O.written out.old) (cut p read))) }
     ensures no_profile { (profile capture : List ℕ) → IsCheck (map (λ w. w.now) words.now) profile capture → H.told shelf.old ≡ true →
-        profile_under (H.file shelf.old) profile ≡ None → TextAndStatus read_fault_text 7 (O.written out.old) (O.written out.new) result }
+        profile_under (H.file shelf.old) profile ≡ None →
+        ProfileUnread H.Shelf profile shelf.old shelf.new × Answers O.Sink read_fault_text 7 out.old out.new result }
     ensures no_capture { (profile capture : List ℕ) → IsCheck (map (λ w. w.now) words.now) profile capture → H.told shelf.old ≡ true →
         (p : named.Profile) → profile_under (H.file shelf.old) profile ≡ Some (Ok p) → H.file shelf.old capture ≡ None →
-        result ≢ 9 → TextAndStatus read_fault_text 7 (O.written out.old) (O.written out.new) result }
+        result ≢ 9 → Answers O.Sink read_fault_text 7 out.old out.new result }
     ensures refused_cut { (profile capture : List ℕ) → IsCheck (map (λ w. w.now) words.now) profile capture → H.told shelf.old ≡ true →
         (e : declared.ProfileError) → profile_under (H.file shelf.old) profile ≡ Some (Err e) → result ≡ 7 →
-        ProfileUnread (H.file shelf.old) profile (H.is_open shelf.new) (H.rest shelf.new) × (O.written out.new ≡ plus (O.written out.old) read_fault_text) }
+        ProfileUnread H.Shelf profile shelf.old shelf.new × (O.written out.new ≡ plus (O.written out.old) read_fault_text) }
     ensures write_fault { result ≡ 8 → Rose (O.faults out.old) (O.faults out.new) }
     ensures part { (p : named.Profile) (b : List ℕ) (names : Checks (map (λ w. w.now) words.now) (H.told shelf.old) (H.file shelf.old) p b) → result ≡ 8 →
-        Partly (O.written out.old) (O.written out.new) (output p b)
+        GivesPart O.Sink (output p b) out.old out.new
         ⊎ (Rose (H.faults shelf.old) (H.faults shelf.new)
-        × ((ProfileUnread (H.file shelf.old) names.profile_name (H.is_open shelf.new) (H.rest shelf.new) × Partly (O.written out.old) (O.written out.new) read_fault_text)
-        ⊎ GivesPartOfCut p b (H.is_open shelf.new) (H.rest shelf.new) (O.written out.old) (O.written out.new))) }
+        × ((ProfileUnread H.Shelf names.profile_name shelf.old shelf.new × GivesPart O.Sink read_fault_text out.old out.new)
+        ⊎ ((read : List ℕ) × CutAt H.Shelf p names.profile_name names.capture_name b read shelf.old shelf.new
+        × GivesPart O.Sink (cut p read) out.old out.new))) }
     ensures refused_part { (profile capture : List ℕ) → IsCheck (map (λ w. w.now) words.now) profile capture → H.told shelf.old ≡ true →
         (e : declared.ProfileError) → profile_under (H.file shelf.old) profile ≡ Some (Err e) → result ≡ 8 →
-        Partly (O.written out.old) (O.written out.new) (profile_error_text (number_of e))
-        ⊎ (Rose (H.faults shelf.old) (H.faults shelf.new) × Partly (O.written out.old) (O.written out.new) read_fault_text) }
+        GivesPart O.Sink (profile_error_text (number_of e)) out.old out.new
+        ⊎ (ProfileUnread H.Shelf profile shelf.old shelf.new × GivesPart O.Sink read_fault_text out.old out.new) }
     ensures shelf_kept { result ≢ 7 → result ≢ 8 → H.faults shelf.new ≡ H.faults shelf.old }
     ensures sink_kept { result ≢ 8 → O.faults out.new ≡ O.faults out.old }
 
     // 4. Want of memory comes before the capture is opened and writes nothing.
     ensures unopened { result ≡ 9 → (profile : List ℕ) × (capture : List ℕ) × IsCheck (map (λ w. w.now) words.now) profile capture
-        × OnlyProfileRead shelf.old shelf.new (H.told shelf.old) (H.file shelf.old) profile (H.is_open shelf.new) (H.rest shelf.new) }
-    ensures no_memory { result ≡ 9 → O.written out.new ≡ O.written out.old }
+        × ReadsProfile H.Shelf profile shelf.old shelf.new }
+    ensures no_memory { result ≡ 9 → out.new ≡ out.old }
 
-    // 5. Where no count rose and memory was there, the whole output was written.
+    // 5. Each file is asked for at most once, the profile's first: none for words that are no command, the profile's
+    // alone where it is refused, and both where the capture is judged.
+    ensures none_opened { IsNoCommand (map (λ w. w.now) words.now) → shelf.new ≡ shelf.old }
+    ensures one_opened { result ≡ 3 → (profile : List ℕ) × (capture : List ℕ) × IsCheck (map (λ w. w.now) words.now) profile capture
+        × Opens H.Shelf profile shelf.old shelf.new × (H.is_open shelf.new ≡ true) }
+    ensures both_opened { IsJudged result → (profile : List ℕ) × (capture : List ℕ) × IsCheck (map (λ w. w.now) words.now) profile capture
+        × OpensBoth H.Shelf profile capture shelf.old shelf.new × (H.is_open shelf.new ≡ true) }
+
+    // 6. Each status has its cause, whatever the shelf and the sink tell.
+    ensures status { result ≤ 9 }
+    ensures usage_only { result ≡ 2 → IsNoCommand (map (λ w. w.now) words.now) }
+
+    // 7. Where no count rose and memory was there, the whole output was written.
     ensures complete { (p : named.Profile) (b : List ℕ) → Checks (map (λ w. w.now) words.now) (H.told shelf.old) (H.file shelf.old) p b →
         IsUnrisen (H.faults shelf.old) (H.faults shelf.new) → IsUnrisen (O.faults out.old) (O.faults out.new) →
         (result ≡ 9) ⊎ Gives (output p b) (status_of p b) (O.written out.old) (O.written out.new) result }
 
-    // 6. It makes no fault by itself.
+    // 8. It makes no fault by itself: none of a sure shelf with the files that are needed, and none of a sink with
+    // room for what is written.
     ensures shelf_sure { H.sure shelf.old ≡ true → (profile capture : List ℕ) → IsCheck (map (λ w. w.now) words.now) profile capture →
-        IsSome (profile_under (H.file shelf.old) profile) → IsSome (H.file shelf.old capture) → H.faults shelf.new ≡ H.faults shelf.old }
-    ensures sink_room { H.sure shelf.old ≡ true → (p : named.Profile) (b : List ℕ) → Checks (map (λ w. w.now) words.now) (H.told shelf.old) (H.file shelf.old) p b →
-        HasRoom (O.room out.old) (length (output p b)) → O.faults out.new ≡ O.faults out.old }
+        AreThere (profile_under (H.file shelf.old) profile) (H.file shelf.old capture) → H.faults shelf.new ≡ H.faults shelf.old }
+    ensures sink_room { H.sure shelf.old ≡ true → (profile capture : List ℕ) → IsCheck (map (λ w. w.now) words.now) profile capture →
+        HasRoom (O.room out.old) (length (whole_text (profile_under (H.file shelf.old) profile) (H.file shelf.old capture))) →
+        O.faults out.new ≡ O.faults out.old }
+    ensures usage_room { IsNoCommand (map (λ w. w.now) words.now) → HasRoom (O.room out.old) (length usage_text) → O.faults out.new ≡ O.faults out.old }
 {
     if is_check(words) {
         check(alloc, words[1], words[2], shelf, out)

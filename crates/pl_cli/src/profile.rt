@@ -1,8 +1,9 @@
 //! The profile of a command: the usual one, or that of a file.
-ghost use Rattle.std.specs.Prelude.{◌≡◌, ◌⊎◌, List, ℕ, Some, true, IsSome, IfErr, IfOk, OnOk};
+ghost use Rattle.std.specs.Prelude.{◌≡◌, ◌⊎◌, List, ℕ, Some, true, IsSome, IfErr, IfOk};
 ghost use Rattle.pl_io.specs.Told.{ahead};
 ghost use Rattle.pl_profile.specs.ProfileOf.{profile_of};
-ghost use Rattle.pl_cli.specs.Source.{IfReadable, IfUnreadable, IsBegun, IsNamed, IsReadable, IsText, OnlyProfileRead, ProfileCause, ProfileUnread, profile_under};
+ghost use Rattle.pl_cli.specs.Promise.{IsBegun};
+ghost use Rattle.pl_cli.specs.Source.{IfReadable, IfUnreadable, IsNamed, IsOfText, IsReadable, IsText, ProfileCame, ProfileCause};
 
 use crate::capture::read_front;
 use pl_io::Shelf;
@@ -27,14 +28,7 @@ pub(crate) fn profile_named<H: Shelf>(
     name: &str,
     shelf: &mut H,
 ) -> Result<Profile, NoProfile>
-    ensures named { H.told shelf.old ≡ true → IsNamed (profile_under (H.file shelf.old) name.now) result }
-    ensures still_told { H.told shelf.new ≡ H.told shelf.old }
-    ensures files { (other : List ℕ) → H.file shelf.new other ≡ H.file shelf.old other }
-    ensures never_fails { H.sure shelf.old ≡ true → IsSome (profile_under (H.file shelf.old) name.now) → IsReadable result }
-    ensures still_sure { OnOk result (H.sure shelf.old ≡ true → H.sure shelf.new ≡ true) }
-    ensures unread { H.told shelf.old ≡ true → IfUnreadable result (ProfileUnread (H.file shelf.old) name.now (H.is_open shelf.new) (H.rest shelf.new)) }
-    ensures only { IfReadable result (OnlyProfileRead shelf.old shelf.new (H.told shelf.old) (H.file shelf.old) name.now (H.is_open shelf.new) (H.rest shelf.new)) }
-    ensures cause { ProfileCause result (H.faults shelf.old) (H.faults shelf.new) }
+    ensures came { ProfileCame H.Shelf name.now shelf.old shelf.new result }
 {
     if name == "-" {
         return Ok(Profile::usual());
@@ -48,12 +42,14 @@ pub(crate) fn profile_named<H: Shelf>(
 /// The profile whose text the open file is.
 fn profile_in<H: Shelf>(alloc: Global, shelf: &mut H) -> Result<Profile, NoProfile>
     requires opened { H.is_open shelf.old ≡ true }
-    ensures named { (text : List ℕ) → H.rest shelf.old ≡ Some text → IsNamed (Some (profile_of text)) result }
+    ensures of_text { IsOfText result (H.rest shelf.old) }
     ensures still_told { H.told shelf.new ≡ H.told shelf.old }
     ensures files { (other : List ℕ) → H.file shelf.new other ≡ H.file shelf.old other }
     ensures never_fails { H.sure shelf.old ≡ true → IsReadable result }
-    ensures still_sure { OnOk result (H.sure shelf.old ≡ true → H.sure shelf.new ≡ true) }
+    ensures still_sure { IfReadable result (H.sure shelf.old ≡ true → H.sure shelf.new ≡ true) }
     ensures opened { H.is_open shelf.new ≡ true }
+    ensures opens { H.opens shelf.new ≡ H.opens shelf.old }
+    ensures name_kept { H.open_name shelf.new ≡ H.open_name shelf.old }
     ensures unread { IfUnreadable result ((read : List ℕ) × (H.rest shelf.old ≡ ahead read (H.rest shelf.new))) }
     ensures begun { IsSome (H.rest shelf.old) → IfReadable result (IsBegun (H.rest shelf.old) (H.rest shelf.new)) }
     ensures cause { ProfileCause result (H.faults shelf.old) (H.faults shelf.new) }
@@ -83,8 +79,10 @@ fn read_text<H: Shelf>(alloc: Global, shelf: &mut H) -> Result<Vec<u8>, NoProfil
     ensures still_told { H.told shelf.new ≡ H.told shelf.old }
     ensures files { (other : List ℕ) → H.file shelf.new other ≡ H.file shelf.old other }
     ensures never_fails { H.sure shelf.old ≡ true → IsReadable result }
-    ensures still_sure { OnOk result (H.sure shelf.old ≡ true → H.sure shelf.new ≡ true) }
+    ensures still_sure { IfReadable result (H.sure shelf.old ≡ true → H.sure shelf.new ≡ true) }
     ensures opened { H.is_open shelf.new ≡ true }
+    ensures opens { H.opens shelf.new ≡ H.opens shelf.old }
+    ensures name_kept { H.open_name shelf.new ≡ H.open_name shelf.old }
     ensures unread { IfUnreadable result ((read : List ℕ) × (H.rest shelf.old ≡ ahead read (H.rest shelf.new))) }
     ensures begun { IsSome (H.rest shelf.old) → IfReadable result (IsBegun (H.rest shelf.old) (H.rest shelf.new)) }
     ensures cause { ProfileCause result (H.faults shelf.old) (H.faults shelf.new) }

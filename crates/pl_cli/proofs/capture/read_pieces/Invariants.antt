@@ -16,6 +16,8 @@ invariant-loop-taken g l = record {
   items : l.judging.items ≤ l.taken;
   engine : l.engine.items ≤ l.taken;
   verdicts : l.judging.verdicts ≤ l.judging.items * 32;
+  opens : g.H.Shelf.opens l.shelf ≡ g.H.Shelf.opens l.initial.shelf;
+  name : g.H.Shelf.open_name l.shelf ≡ g.H.Shelf.open_name l.initial.shelf;
   opened : g.H.Shelf.is_open l.shelf ≡ true;
   sure : g.H.Shelf.sure l.initial.shelf ≡ true → g.H.Shelf.sure l.shelf ≡ true;
   shelf_kept : g.H.Shelf.faults l.shelf ≡ g.H.Shelf.faults l.initial.shelf;

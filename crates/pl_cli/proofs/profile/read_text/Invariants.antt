@@ -7,6 +7,8 @@ invariant-loop-buffer g l = record {
   bound : length l.text.items ≤ 65537;
   buffer : length l.buffer ≡ 4096;
   rest_is : g.H.Shelf.rest l.initial.shelf ≡ ahead l.text.items (g.H.Shelf.rest l.shelf);
+  opens : g.H.Shelf.opens l.shelf ≡ g.H.Shelf.opens l.initial.shelf;
+  name : g.H.Shelf.open_name l.shelf ≡ g.H.Shelf.open_name l.initial.shelf;
   opened : g.H.Shelf.is_open l.shelf ≡ true;
   told : g.H.Shelf.told l.shelf ≡ g.H.Shelf.told l.initial.shelf;
   files : (other : List ℕ) → g.H.Shelf.file l.shelf other ≡ g.H.Shelf.file l.initial.shelf other;

@@ -1,4 +1,4 @@
-use Rattle.pl_cli.proofs.Files.{some_none, taken_cut, taken_nothing, taken_reads}
+use Rattle.pl_cli.proofs.Files.{taken_cut, taken_nothing, taken_reads}
 use Rattle.pl_cli.proofs.Tops.{so_far_nothing}
 use Rattle.pl_cli.proofs.with_engine.read_capture.Goals as goal
 
@@ -15,9 +15,3 @@ returns-in-Err-read_pieces-clause-judged g c =
 pub returns-in-Err-clause-judged : goal.returns-in-Err-clause-judged
 returns-in-Err-clause-judged g c =
     taken_nothing _ _ (so_far_nothing c.args.judging.now c.requires.judging c.requires.engine) c.in-Err.ensures.closed
-
-pub returns-in-Ok-read_pieces-clause-absent : goal.returns-in-Ok-read_pieces-clause-absent
-returns-in-Ok-read_pieces-clause-absent g c = λ told none. absurd (some_none _ _ (c.in-Ok.ensures.whole told) none)
-
-pub returns-in-Err-read_pieces-clause-absent : goal.returns-in-Err-read_pieces-clause-absent
-returns-in-Err-read_pieces-clause-absent g c = λ told none. absurd (some_none _ _ (c.in-Ok.ensures.whole told) none)
