@@ -1,6 +1,6 @@
 //! The one error of the outside, and the count of it.
-ghost use Rattle.std.specs.Prelude.{◌≡◌, ◌+◌, ◌≤◌, min};
-ghost use Rattle.pl_io.specs.Faults.{last_count};
+ghost use Rattle.std.specs.Prelude.{◌≡◌, ◌≤◌};
+ghost use Rattle.pl_io.specs.Faults.{Rose};
 
 use thiserror::Error;
 
@@ -25,7 +25,7 @@ impl FaultCount {
 
     /// Counts a call that fails.
     pub fn raise(&mut self) -> Failed
-        ensures raised { self.new.value ≡ min (self.old.value + 1) last_count }
+        ensures rose { Rose self.old.value self.new.value }
         ensures never_falls { self.old.value ≤ self.new.value }
     {
         self.value = self.value.saturating_add(1);

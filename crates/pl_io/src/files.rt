@@ -1,6 +1,8 @@
 //! The files of the system.
-ghost use Rattle.std.specs.Prelude.{◌≡◌, false, None, is_some};
+ghost use Rattle.std.specs.Prelude.{◌≡◌, ◌<◌, ◌≤◌, true, false, None, IfOk, is_some, length};
 ghost use Rattle.std.proofs.lemmas.Bool.{false≢true};
+ghost use Rattle.pl_io.specs.Faults.{HasCause};
+ghost use Rattle.pl_io.specs.Passed.{GivesUp};
 
 use crate::failed::{Failed, FaultCount};
 use crate::shelf::Shelf;
@@ -69,7 +71,15 @@ impl<R: Files> Shelf for FileShelf<R> {
     }
 
     /// A read that a signal interrupts is counted as a fault like any other.
-    fn read(&mut self, buf: &mut [u8]) -> Result<usize, Failed> {
+    fn read(&mut self, buf: &mut [u8]) -> Result<usize, Failed>
+        requires opened { is_some self.old.file ≡ true }
+        requires buffer { 0 < length buf.old }
+        ensures most { IfOk result (λ n. n ≤ length buf.new) }
+        ensures given { GivesUp R.File.remaining self.old.file self.new.file result buf.new }
+        ensures opens { self.new.opens ≡ self.old.opens }
+        ensures cause { HasCause self.old.faults.value self.new.faults.value result }
+        ensures never_falls { self.old.faults.value ≤ self.new.faults.value }
+    {
         match &mut self.file {
             Some(file) => match file.read(buf) {
                 Ok(count) => Ok(count),

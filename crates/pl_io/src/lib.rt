@@ -1,7 +1,7 @@
 //! The outside as the program sees it: what can be read and written, and how often that failed.
 //!
-//! Programs are written over the traits. The memory forms tell all that they hold, so that a proof can
-//! name it; the adapters stand on files and on standard output, and tell only their count of faults.
+//! Programs are written over the traits. The memory forms tell all that they hold, so that a proof
+//! can name it; the adapters stand on files and on standard output, and tell only their counts.
 #![tactic(auto)]
 
 mod failed;

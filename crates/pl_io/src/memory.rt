@@ -1,4 +1,5 @@
-//! The outside in memory. These objects tell all that they hold, and fail at the calls that they are told.
+//! The outside in memory. These objects tell all that they hold, and fail at the calls that they
+//! are told.
 mod file;
 mod plan;
 mod shelf;

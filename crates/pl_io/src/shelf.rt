@@ -1,5 +1,6 @@
 //! Files that can be opened by name and read, one at a time.
-ghost use Rattle.std.specs.Prelude.{◌≡◌, ◌<◌, ◌≤◌, List, ℕ, Bool, true, false, length, take, Option, Some, IfOk, OnOk, OnErr, IsOk, IsSome};
+ghost use Rattle.std.specs.Prelude.{◌≡◌, ◌<◌, ◌≤◌, List, ℕ, Bool, true, false, length, take};
+ghost use Rattle.std.specs.Prelude.{Option, Some, IfOk, OnOk, OnErr, IsOk, IsSome};
 ghost use Rattle.pl_io.specs.Faults.{HasCause, last_count, raised};
 ghost use Rattle.pl_io.specs.Told.{ahead, AtEnd};
 
@@ -37,7 +38,8 @@ pub trait Shelf {
     fn open(&mut self, name: &str) -> Result<(), Failed>
         ensures opened { OnOk result (is_open self.new ≡ true) }
         ensures closed { OnErr result (is_open self.new ≡ false) }
-        ensures whole { OnOk result (told self.old ≡ true → IsSome (rest self.new) × (rest self.new ≡ file self.old name.now)) }
+        ensures whole { OnOk result (told self.old ≡ true →
+            IsSome (rest self.new) × (rest self.new ≡ file self.old name.now)) }
         ensures counted { opens self.new ≡ raised (opens self.old) }
         ensures named { OnOk result (told self.old ≡ true → open_name self.new ≡ Some name.now) }
 

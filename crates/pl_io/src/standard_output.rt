@@ -1,6 +1,9 @@
 //! Output to a writer of the system.
-ghost use Rattle.std.specs.Prelude.{◌≡◌, ◌≤◌, None, IfOk, length};
+ghost use Rattle.std.specs.Prelude.{◌≡◌, ◌<◌, ◌≤◌, None, IfOk, OnErr, length, take};
+ghost use Rattle.std.specs.Io.KnownBytes.{Appends};
 ghost use Rattle.std.proofs.lemmas.Bool.{false≢true};
+ghost use Rattle.pl_io.specs.Faults.{HasCause};
+ghost use Rattle.pl_io.specs.Passed.{AppendsPart};
 
 use crate::failed::{Failed, FaultCount};
 use crate::sink::Sink;
@@ -26,9 +29,15 @@ impl<W: Write> StdSink<W> {
     }
 }
 
-/// Writes a front of the piece and flushes it, so that nothing waits in a buffer.
+/// Writes a front of the piece and flushes it, so that nothing waits in a buffer. How many bytes.
+///
+/// What the writer contains grows by that front; after an error by some front, since the flush may
+/// be what failed.
 fn write_through<W: Write>(out: &mut W, piece: &[u8]) -> io::Result<usize>
-    ensures { IfOk result (λ n. n ≤ length piece.now) }
+    ensures most { IfOk result (λ n. n ≤ length piece.now) }
+    ensures passed { IfOk result (λ n.
+        Appends (W.contents out.old) (W.contents out.new) (take n piece.now)) }
+    ensures part { OnErr result (AppendsPart (W.contents out.old) (W.contents out.new) piece.now) }
 {
     let count = out.write(piece)?;
     out.flush()?;
@@ -45,7 +54,16 @@ impl<W: Write> Sink for StdSink<W> {
     ghost room_is_below = { λ sink never. absurd (false≢true never) };
 
     /// A writer that takes nothing of a piece is at fault, and so is one that can't be flushed.
-    fn write(&mut self, piece: &[u8]) -> Result<usize, Failed> {
+    fn write(&mut self, piece: &[u8]) -> Result<usize, Failed>
+        ensures most { IfOk result (λ n. n ≤ length piece.now) }
+        ensures some { IfOk result (λ n. 0 < length piece.now → 0 < n) }
+        ensures passed { IfOk result (λ n.
+            Appends (W.contents self.old.out) (W.contents self.new.out) (take n piece.now)) }
+        ensures part { OnErr result (
+            AppendsPart (W.contents self.old.out) (W.contents self.new.out) piece.now) }
+        ensures cause { HasCause self.old.faults.value self.new.faults.value result }
+        ensures never_falls { self.old.faults.value ≤ self.new.faults.value }
+    {
         match write_through(&mut self.out, piece) {
             Ok(count) if count > 0 || piece.is_empty() => Ok(count),
             _ => Err(self.faults.raise()),

@@ -1,6 +1,7 @@
 //! One file in memory, and how it is found and read.
-ghost use Rattle.std.specs.Prelude.{◌≡◌, ◌<◌, ◌^◌, ◌++◌, length, take, min, Some, None, IfOk, IfSome, IfNone, string_bytes};
-ghost use Rattle.pl_io.specs.MemFiles.{IsInside, bytes_at, file_in, name_at, unread};
+ghost use Rattle.std.specs.Prelude.{◌≡◌, ◌<◌, ◌^◌, ◌++◌, length, take, min, string_bytes};
+ghost use Rattle.std.specs.Prelude.{Some, None, IfOk, IfSome, IfNone};
+ghost use Rattle.pl_io.specs.MemFiles.{IsInside, bytes_at, file_in, given, name_at, unread};
 
 use std::alloc::{AllocError, Global};
 
@@ -33,7 +34,8 @@ impl MemFile {
 
 /// The index of the newest file of this name.
 pub fn newest(files: &[MemFile], name: &str) -> Option<usize>
-    ensures found { IfSome result (λ k. k < length files.now × (file_in files.now name.now ≡ Some (bytes_at files.now k))) }
+    ensures inside { IfSome result (λ k. k < length files.now) }
+    ensures found { IfSome result (λ k. file_in files.now name.now ≡ Some (bytes_at files.now k)) }
     ensures named { IfSome result (λ k. name_at files.now k ≡ name.now) }
     ensures absent { IfNone result (file_in files.now name.now ≡ None) }
 {
@@ -55,13 +57,15 @@ impl Opened {
         &files[self.file].bytes[self.place..]
     }
 
-    /// Reads the next bytes of the open file into the front of `buf`, at most `step` of them. How many.
+    /// Reads the next bytes of the open file into the front of `buf`, at most `step` of them, and
+    /// answers how many.
     pub fn read(&mut self, files: &[MemFile], step: usize, buf: &mut [u8]) -> usize
         requires { IsInside files.now self.old }
         ensures inside { IsInside files.now self.new }
         ensures file { self.new.file ≡ self.old.file }
-        ensures count { result ≡ min (min step (length (unread files.now self.old))) (length buf.old) }
-        ensures bytes { unread files.now self.old ≡ take result buf.new ++ unread files.now self.new }
+        ensures count { result ≡ given step (length buf.old) (Some (unread files.now self.old)) }
+        ensures bytes { unread files.now self.old
+            ≡ take result buf.new ++ unread files.now self.new }
     {
         let count = copy_front(self.unread(files), step, buf);
         self.place += count;

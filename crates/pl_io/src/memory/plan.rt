@@ -1,13 +1,13 @@
 //! Which calls of an object in memory fail, and how many have failed.
-ghost use Rattle.std.specs.Prelude.{◌≡◌, ◌+◌, ◌≤◌, min, true, Contains, IfOk, OnOk, OnErr, IsOk};
-ghost use Rattle.pl_io.specs.Faults.{HasCause, last_count};
-ghost use Rattle.pl_io.specs.FaultPlan.{is_sure};
+ghost use Rattle.std.specs.Prelude.{◌≡◌, ◌≤◌, true, IfOk, OnOk, OnErr, IsOk};
+ghost use Rattle.pl_io.specs.Faults.{HasCause};
+ghost use Rattle.pl_io.specs.FaultPlan.{is_sure, IsCalled, IsFresh, IsPlanned};
 
 use crate::failed::{Failed, FaultCount};
 use std::alloc::{AllocError, Global};
 
-/// The number of an object's next call, the numbers of the calls that fail, and the count of faults.
-/// Calls are numbered from 1; the number stays at its last value, `2^64 - 1`.
+/// The number of an object's next call, the numbers of the calls that fail, and the count of
+/// faults. Calls are numbered from 1; the number stays at its last value, `2^64 - 1`.
 #[derive(Debug, Drop)]
 pub struct FaultPlan {
     pub next_call: u64,
@@ -18,8 +18,7 @@ pub struct FaultPlan {
 impl FaultPlan {
     /// No call was made yet, and those with these numbers will fail.
     pub fn new(alloc: Global, fails: &[u64]) -> Result<FaultPlan, AllocError>
-        ensures first_call { IfOk result (λ plan. plan.next_call ≡ 1) }
-        ensures fails { IfOk result (λ plan. plan.fails.items ≡ fails.now) }
+        ensures fresh { IfOk result (λ plan. IsFresh plan fails.now) }
         ensures none_failed { IfOk result (λ plan. plan.faults.value ≡ 0) }
     {
         Ok(FaultPlan {
@@ -31,10 +30,9 @@ impl FaultPlan {
 
     /// Begins a call, which fails where the plan names its number.
     pub fn begin_call(&mut self) -> Result<(), Failed>
-        ensures planned { OnErr result (Contains self.old.fails.items self.old.next_call) }
-        ensures unplanned { OnOk result (Contains self.old.fails.items self.old.next_call → ⊥) }
-        ensures next { self.new.next_call ≡ min (self.old.next_call + 1) last_count }
-        ensures fails { self.new.fails.items ≡ self.old.fails.items }
+        ensures planned { OnErr result (IsPlanned self.old) }
+        ensures unplanned { OnOk result (IsPlanned self.old → ⊥) }
+        ensures called { IsCalled self.old self.new }
         ensures sure { is_sure self.old ≡ true → IsOk result }
         ensures still_sure { OnOk result (is_sure self.new ≡ is_sure self.old) }
         ensures cause { HasCause self.old.faults.value self.new.faults.value result }

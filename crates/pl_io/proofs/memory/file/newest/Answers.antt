@@ -6,11 +6,9 @@ pub returns-then-eq-clause-found : goal.returns-then-eq-clause-found
 returns-then-eq-clause-found c =
     let k = c.loop-k.k - 1 in
     let inside : k < length c.args.files.now = omega arith in
-    let next : c.loop-k.k ≡ suc k = omega arith in (
-      inside,
-      file_in-newest c.args.files.now k c.args.name.now c.index-files-k.result inside
-          (rw next at c.loop-k.invariant) (search rules),
-    )
+    let next : c.loop-k.k ≡ suc k = omega arith in
+    file_in-newest c.args.files.now k c.args.name.now c.index-files-k.result inside
+    (rw next at c.loop-k.invariant) (search rules)
 
 pub returns-then-eq-clause-named : goal.returns-then-eq-clause-named
 returns-then-eq-clause-named c =
