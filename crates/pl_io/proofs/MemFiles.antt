@@ -1,10 +1,11 @@
 -- Files in memory: the newest of a name, and one more file.
-use Rattle.std.proofs.Common.{◌≡◌, ◌≢◌, ℕ, suc, zero, ◌<◌, List, [], ◌∷◌, ◌++◌, Bool, true, false, Option, Some, None, length, length-append, drop, get_or, arith, refl, ◌∙◌, sym}
+use Rattle.std.proofs.Common.{◌≡◌, ◌≢◌, ℕ, suc, zero, ◌+◌, ◌<◌, take, List, [], ◌∷◌, ◌++◌, Bool, true, false, Option, Some, None, length, length-append, drop, get_or, arith, refl, ◌∙◌, sym}
 use Rattle.std.specs.Prelude.{string_bytes, bytes_eq}
 use Rattle.std.specs.Prelude.{IfSome, option_map, if◌then◌else◌}
 use Rattle.std.specs.Option.{option_or}
 use Rattle.std.proofs.lemmas.Slice.Eq.{bytes_eq-Decides}
 use Rattle.std.proofs.lemmas.Bool.{false_from_ne_true}
+use Rattle.std.proofs.lemmas.List.{drop-drop, take-append-drop}
 use Rattle.pl_io.specs.declared.memory.file.MemFile.{MemFile}
 use Rattle.pl_io.specs.declared.memory.file.Opened.{Opened}
 use Rattle.pl_io.specs.MemFiles.{IsInside, bytes_at, file_in, name_at, opened_name, unread}
@@ -85,3 +86,8 @@ pub inside-pushed : (files pushed more : List MemFile) (found : Bool) (opened : 
     pushed ≡ (if found then files ++ more else files) → IfSome opened (IsInside files) → IfSome opened (IsInside pushed)
 inside-pushed files pushed more true opened is inside = rw is (inside-append files more opened inside)
 inside-pushed files pushed more false opened is inside = rw is inside
+
+-- the bytes behind a place are those that were read and those behind the next place
+pub read_on : (bytes buffer : List ℕ) (place n : ℕ) → take n buffer ≡ take n (drop place bytes) →
+    drop place bytes ≡ take n buffer ++ drop (place + n) bytes
+read_on bytes buffer place n front = rw (front, ← drop-drop n place bytes, take-append-drop)

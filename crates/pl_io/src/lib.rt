@@ -4,19 +4,25 @@
 //! can name it; the adapters stand on files and on standard output, and tell only their counts.
 #![tactic(auto)]
 
+mod conn;
+mod door;
 mod failed;
 mod files;
 mod memory;
 mod shelf;
 mod sink;
 mod standard_output;
+mod tcp;
 
+pub use conn::{Conn, send_all};
+pub use door::Door;
 pub use failed::Failed;
 pub use files::FileShelf;
-pub use memory::{MemShelf, MemSink};
+pub use memory::{MemConn, MemDoor, MemShelf, MemSink};
 pub use shelf::Shelf;
 pub use sink::{Sink, write_all};
 pub use standard_output::StdSink;
+pub use tcp::{TcpConn, TcpDoor};
 
 #[cfg(test)]
 mod tests;

@@ -7,6 +7,8 @@ use std::io::Write;
 use std::test::Fail;
 use std::{env, fs, io, process};
 
+pub mod links;
+
 const CAPTURE: &[u8] = b"a first line";
 
 const PROFILE: &[u8] = b"port";

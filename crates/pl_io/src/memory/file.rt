@@ -74,7 +74,7 @@ impl Opened {
 }
 
 /// Copies the front of `bytes`, at most `step` of them, into the front of `buf`. How many.
-fn copy_front(bytes: &[u8], step: usize, buf: &mut [u8]) -> usize
+pub fn copy_front(bytes: &[u8], step: usize, buf: &mut [u8]) -> usize
     ensures count { result ≡ min (min step (length bytes.now)) (length buf.old) }
     ensures bytes { take result buf.new ≡ take result bytes.now }
 {

@@ -1,7 +1,6 @@
 //! Output in memory.
 ghost use Rattle.std.specs.Prelude.{◌≡◌, ◌+◌, ◌-◌, ◌<◌, ◌≤◌, ◌⊎◌, ◌↔◌, ℕ, [], ◌++◌, min};
 ghost use Rattle.std.specs.Prelude.{Some, None, if◌then◌else◌, IfOk, IsErr, OnErr, length, take};
-ghost use Rattle.std.specs.Prelude.{vec_len, vec_capacity};
 ghost use Rattle.std.proofs.Common.{arith};
 ghost use Rattle.std.proofs.lemmas.Bool.Decides.{nat_tests};
 ghost use Rattle.pl_io.specs.Faults.{HasCause};
@@ -10,19 +9,17 @@ ghost use Rattle.pl_io.specs.Told.{HasRoom, Lowered};
 
 use crate::failed::Failed;
 use crate::memory::plan::FaultPlan;
+use crate::memory::reserved::Reserved;
 use crate::sink::Sink;
 use std::alloc::{AllocError, Global};
 
 /// Output in memory, up to a room that is reserved from the beginning. It tells what was written.
 #[derive(Debug, Drop)]
 pub struct MemSink {
-    bytes: Vec<u8>,
-    /// For how many more bytes there is room.
-    left: usize,
+    output: Reserved,
     /// At most so many bytes are taken by one write.
     take: usize,
     plan: FaultPlan,
-    ghost reserved: { vec_len bytes + left ≤ vec_capacity bytes },
     ghost some_take: { 0 < take },
 }
 
@@ -42,14 +39,13 @@ impl MemSink {
         ensures nothing { IfOk result (λ sink. ⟦<Self as Sink>⟧.written sink ≡ Some []) }
         ensures room { IfOk result (λ sink. ⟦<Self as Sink>⟧.room sink
             ≡ (if none_from 1 fails.now then Some room else None)) }
-        ensures left { IfOk result (λ sink. sink.left ≡ room) }
+        ensures left { IfOk result (λ sink. sink.output.left ≡ room) }
         ensures take { IfOk result (λ sink. sink.take ≡ take) }
         ensures plan { IfOk result (λ sink. IsFresh sink.plan fails.now) }
         ensures none_failed { IfOk result (λ sink. ⟦<Self as Sink>⟧.faults sink ≡ 0) }
     {
         Ok(MemSink {
-            bytes: Vec::with_capacity(alloc, room)?,
-            left: room,
+            output: Reserved::new(alloc, room)?,
             take,
             plan: FaultPlan::new(alloc, fails)?,
         })
@@ -59,14 +55,14 @@ impl MemSink {
     pub fn written(&self) -> &[u8]
         ensures { ⟦<Self as Sink>⟧.written self.now ≡ Some result.now }
     {
-        &self.bytes
+        &self.output.bytes
     }
 }
 
 impl Sink for MemSink {
-    ghost written = { λ sink. Some sink.bytes.items };
+    ghost written = { λ sink. Some sink.output.bytes.items };
 
-    ghost room = { λ sink. if is_sure sink.plan then Some sink.left else None };
+    ghost room = { λ sink. if is_sure sink.plan then Some sink.output.left else None };
 
     ghost faults = { λ sink. sink.plan.faults.value };
 
@@ -76,17 +72,17 @@ impl Sink for MemSink {
         // It fails exactly where the plan says so or the room is full, and else takes as much as
         // it may.
         ensures fails { IsErr result
-            ↔ (IsPlanned self.old.plan ⊎ ((self.old.left ≡ 0) × (0 < length piece.now))) }
+            ↔ (IsPlanned self.old.plan ⊎ ((self.old.output.left ≡ 0) × (0 < length piece.now))) }
         ensures count { IfOk result (λ n.
-            n ≡ min (min self.old.take (length piece.now)) self.old.left) }
-        ensures left { IfOk result (λ n. self.new.left ≡ self.old.left - n) }
-        ensures left_kept { OnErr result (self.new.left ≡ self.old.left) }
+            n ≡ min (min self.old.take (length piece.now)) self.old.output.left) }
+        ensures left { IfOk result (λ n. self.new.output.left ≡ self.old.output.left - n) }
+        ensures left_kept { OnErr result (self.new.output.left ≡ self.old.output.left) }
         ensures called { IsCalled self.old.plan self.new.plan }
         ensures same_take { self.new.take ≡ self.old.take }
 
         ensures bytes { IfOk result (λ n.
-            self.new.bytes.items ≡ self.old.bytes.items ++ take n piece.now) }
-        ensures err { OnErr result (self.new.bytes.items ≡ self.old.bytes.items) }
+            self.new.output.bytes.items ≡ self.old.output.bytes.items ++ take n piece.now) }
+        ensures err { OnErr result (self.new.output.bytes.items ≡ self.old.output.bytes.items) }
         ensures room_left { IfOk result (λ n. (k : ℕ) →
             HasRoom (⟦<Self as Sink>⟧.room self.old) (n + k) →
             HasRoom (⟦<Self as Sink>⟧.room self.new) k) }
@@ -96,16 +92,10 @@ impl Sink for MemSink {
         ensures never_falls { self.old.plan.faults.value ≤ self.new.plan.faults.value }
     {
         self.plan.begin_call()?;
-        let count = self.take.min(piece.len()).min(self.left);
+        let count = self.output.append(piece, self.take);
         if count == 0 && !piece.is_empty() {
             return Err(self.plan.faults.raise());
         }
-        match self.bytes.extend_from_slice(&piece[..count]) {
-            Ok(()) => {
-                self.left -= count;
-                Ok(count)
-            }
-            Err(_) => unreachable!(),
-        }
+        Ok(count)
     }
 }
