@@ -89,7 +89,7 @@ pub struct TcpDoor<R: Net> {
 }
 
 impl<R: Net> TcpDoor<R> {
-    /// A door at this address, an IP address and a port, with no link out and no fault. Where the
+    /// A door at this address, as `127.0.0.1:8080`, with no link out and no fault. Where the
     /// address can't be bound, every `next` fails.
     pub fn bind(rt: R, address: &str) -> TcpDoor<R>
         ensures not_out { ⟦<Self as Door>⟧.is_out result ≡ false }
