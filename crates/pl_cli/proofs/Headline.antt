@@ -149,6 +149,7 @@ came {S = S} {T} {profile} {capture} {old} {new} {out} {out'} {answer} p b (prof
             from_file = λ o. sym file-between ∙ front_ahead read (S.file between capture) (S.rest new) (c.reads.from_file told-between o);
             nothing = c.reads.nothing;
           };
+          size = c.size;
           none_refused = c.none_refused;
         })
         (subst (λ (n : ℕ). Rose n (S.faults new)) r.kept c.rose) a

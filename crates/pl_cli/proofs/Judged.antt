@@ -102,6 +102,7 @@ module _ {H O : Type 0} {S : shelf.Ghosts H} {T : sink.Ghosts O} {p : Profile} {
       unread t.read
       (record {
         reads = record { opens = opens; nothing = λ closed. (t.nothing closed).0; from_file = front };
+        size = t.size;
         none_refused = fault_cause t.read t.ends.1;
         rose = cause;
         not_sure = λ s f. false_is_true (sym (sure s f));

@@ -1,5 +1,7 @@
 //! Reads a capture in pieces, judges each item as soon as it is whole and writes its verdicts.
-ghost use Rattle.std.specs.Prelude.{◌≡◌, ◌≢◌, ◌+◌, ◌*◌, ◌<◌, ◌≤◌, ◌^◌, ◌++◌, List, [], ℕ, Bool, true, false, Some, None, length, take, Option, IfOk, OnOk, OnErr, IsOk, IsSome};
+ghost use Rattle.std.specs.Prelude.{◌≡◌, ◌≢◌, ◌+◌, ◌*◌, ◌<◌, ◌≤◌, ◌^◌, ◌++◌, List, [], ℕ, Bool};
+ghost use Rattle.std.specs.Prelude.{true, false, Some, None, length, take, Option, IfOk, OnOk};
+ghost use Rattle.std.specs.Prelude.{OnErr, IsOk, IsSome};
 ghost use Rattle.pl_io.specs.Faults.{HasCause};
 ghost use Rattle.pl_io.specs.Told.{plus, ahead, AtEnd, HasRoom, Partly};
 ghost use Rattle.pl_capture.specs.Entry.{Entry};
@@ -8,7 +10,8 @@ ghost use Rattle.pl_engine.specs.Engine.{StandsFor};
 ghost use Rattle.pl_engine.specs.Verdicts.{stop_of};
 ghost use Rattle.pl_profile.specs.declared.profile.Profile.{Profile};
 ghost use Rattle.pl_cli.specs.Output.{limit, lines};
-ghost use Rattle.pl_cli.specs.Progress.{ItemJudged, LooksBehind, PieceJudged, ReadJudged, ShelfCause, SoFar, is_fault};
+ghost use Rattle.pl_cli.specs.Progress.{ItemJudged, LooksBehind, PieceJudged, ReadJudged};
+ghost use Rattle.pl_cli.specs.Progress.{ShelfCause, SoFar, is_fault};
 
 use crate::judging::{Ended, Judging};
 use pl_base::{Form, Found, Stop};
@@ -146,8 +149,8 @@ fn judge_piece<O: Sink>(
     Ok(None)
 }
 
-/// Judges the item that the reader lends, and writes its verdicts. Some where the engine refuses it. The list `found`
-/// is empty before, and again behind the lines.
+/// Judges the item that the reader lends, and writes its verdicts. Some where the engine refuses
+/// it. The list `found` is empty before, and again behind the lines.
 fn judge_item<O: Sink>(
     judging: &mut Judging,
     engine: &mut Engine,
