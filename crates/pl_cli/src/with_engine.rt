@@ -9,7 +9,7 @@ ghost use Rattle.pl_engine.specs.Verdicts.{history_after};
 ghost use Rattle.pl_cli.specs.Output.{AtFault, Fault, cause, cut, items_judged, limit, output};
 ghost use Rattle.pl_cli.specs.Output.{status_of};
 ghost use Rattle.pl_cli.specs.Progress.{CaptureJudged, LostAtEnd, LostAtItem, ReadOf, ShelfCause};
-ghost use Rattle.pl_cli.specs.Progress.{is_fault, nothing_judged};
+ghost use Rattle.pl_cli.specs.Progress.{asked, is_fault, nothing_judged, tells};
 ghost use Rattle.pl_cli.specs.Promise.{Judges};
 
 use crate::capture::read_pieces;
@@ -87,8 +87,9 @@ fn read_capture<H: Shelf, O: Sink>(
 ) -> Result<Ended, Failed>
     requires judging { judging.old ≡ nothing_judged }
     requires engine { StandsFor engine.old [] }
-    ensures judged { CaptureJudged engine.old.profile result judging.new engine.new (O.written out.old) (O.written out.new) (O.room out.old) (O.room out.new)
-        (H.told shelf.old) (H.file shelf.old capture.now) (H.is_open shelf.new) (H.rest shelf.new) }
+    ensures judged { CaptureJudged engine.old.profile result judging.new engine.new
+        (tells O.Sink out.old) (tells O.Sink out.new)
+        (asked H.Shelf capture.now shelf.old shelf.new) }
     ensures opens { H.opens shelf.new ≡ raised (H.opens shelf.old) }
     ensures named { H.told shelf.old ≡ true → H.is_open shelf.new ≡ true →
         H.open_name shelf.new ≡ Some capture.now }
