@@ -1,5 +1,5 @@
 -- Reading a file piece by piece.
-use Rattle.std.proofs.Common.{◌≡◌, ◌++◌, ◌+◌, ◌≤◌, List, ℕ, [], refl, ap, ◌∙◌, sym, subst, length, append-nil, length-append, arith, Option, Some, None, Bool, true, false, IsSome}
+use Rattle.std.proofs.Common.{◌≡◌, ◌++◌, ◌+◌, ◌≤◌, List, ℕ, [], refl, ap, ◌∙◌, sym, subst, length, append-nil, length-append, arith, Option, Some, None, true, false, IsSome}
 use Rattle.pl_base.specs.declared.stop.Stop.{Stop}
 use Rattle.pl_io.specs.Told.{ahead, AtEnd}
 use Rattle.pl_io.proofs.Told.{ahead-ahead}

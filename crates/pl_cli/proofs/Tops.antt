@@ -3,7 +3,6 @@ use Rattle.std.proofs.Common.{◌≡◌, ◌≢◌, ◌++◌, ◌+◌, ◌≤◌
 use Rattle.std.proofs.lemmas.List.{take_all, take_at}
 use Rattle.pl_base.specs.declared.stop.Stop.{Stop}
 use Rattle.pl_io.specs.declared.sink.Sink as sink
-use Rattle.pl_io.specs.Faults.{Rose}
 use Rattle.pl_io.specs.Told.{plus, ahead, HasRoom, Partly}
 use Rattle.pl_io.proofs.Told.{plus-plus}
 use Rattle.pl_capture.specs.Entry.{Entry}
@@ -17,7 +16,7 @@ use Rattle.pl_cli.specs.declared.judging.Ended as declared
 use Rattle.pl_cli.specs.declared.judging.Ended.TheVariants as ended
 use Rattle.pl_cli.specs.Output.{AtFault, Fault, cause, cause_status, cut, items_judged, last_text, limit, lines, output, status_of}
 use Rattle.pl_cli.specs.Promise.{Answers, IsFront}
-use Rattle.pl_cli.specs.Progress.{Asked, Tells, tells, EndsAs, LostAtEnd, LostAtItem, ReadOf, RefusedIn, ShelfCause, SoFar, Taken, TakenCut, is_fault, last_cause, nothing_judged, verdicts_in}
+use Rattle.pl_cli.specs.Progress.{Asked, Tells, tells, EndsAs, LostAtEnd, LostAtItem, ReadOf, RefusedIn, SoFar, Taken, TakenCut, is_fault, last_cause, nothing_judged, verdicts_in}
 use Rattle.pl_cli.proofs.Lists.{accepted_all}
 use Rattle.pl_cli.proofs.Ends.{Finishes, fault_cause, fault_text, finishes}
 
