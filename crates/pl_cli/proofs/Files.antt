@@ -1,5 +1,5 @@
 -- Reading a file piece by piece.
-use Rattle.std.proofs.Common.{◌≡◌, ◌++◌, ◌+◌, ◌≤◌, List, ℕ, [], refl, ap, ◌∙◌, sym, subst, length, append-nil, length-append, arith, Option, Some, None, Bool, true, false, IsSome}
+use Rattle.std.proofs.Common.{◌≡◌, ◌++◌, ◌+◌, ◌≤◌, List, ℕ, [], refl, ap, ◌∙◌, sym, subst, length, append-nil, length-append, arith, Option, Some, None, true, false, IsSome}
 use Rattle.pl_base.specs.declared.stop.Stop.{Stop}
 use Rattle.pl_io.specs.Told.{ahead, AtEnd}
 use Rattle.pl_io.proofs.Told.{ahead-ahead}
@@ -10,30 +10,30 @@ use Rattle.pl_cli.specs.declared.judging.Ended.{Ended}
 use Rattle.pl_cli.specs.declared.judging.Ended.TheVariants as ended
 use Rattle.pl_cli.specs.Output.{limit}
 use Rattle.pl_cli.specs.Promise.{IsFront}
-use Rattle.pl_cli.specs.Progress.{CutIn, EndsAs, LooksBehind, Reads, ReadsCut, RefusedIn, SoFar, Taken, TakenCut}
+use Rattle.pl_cli.specs.Progress.{Asked, CutIn, EndsAs, LooksBehind, Reads, ReadsCut, RefusedIn, SoFar, Taken, TakenCut, Tells}
 
 -- so many bytes were read and judged
-pub record Far (p : Profile) (j : Judging) (k : engine.EngineKept) (w w1 : Option (List ℕ)) (r r1 : Option ℕ) (rest rest' : Option (List ℕ)) (taken : ℕ) : Type 0 where
+pub record Far (p : Profile) (j : Judging) (k : engine.EngineKept) (w w1 : Tells) (rest rest' : Option (List ℕ)) (taken : ℕ) : Type 0 where
   pub read : List ℕ
   pub size : length read ≡ taken
   pub rest_is : rest ≡ ahead read rest'
-  pub so_far : SoFar p read j k w w1 r r1
+  pub so_far : SoFar p read j k w w1
 
 pub ahead-nil : (rest : Option (List ℕ)) → ahead [] rest ≡ rest
 ahead-nil None = refl
 ahead-nil (Some bytes) = refl
 
-pub far_start : {p : Profile} {j : Judging} {k : engine.EngineKept} {w w1 : Option (List ℕ)} {r r1 : Option ℕ} (rest : Option (List ℕ)) →
-    SoFar p [] j k w w1 r r1 → Far p j k w w1 r r1 rest rest 0
+pub far_start : {p : Profile} {j : Judging} {k : engine.EngineKept} {w w1 : Tells} (rest : Option (List ℕ)) →
+    SoFar p [] j k w w1 → Far p j k w w1 rest rest 0
 far_start rest f = record { read = []; size = refl; rest_is = sym (ahead-nil rest); so_far = f }
 
 -- the rest before a piece, and behind it
 rest_on : (rest rest1 rest2 : Option (List ℕ)) (read piece : List ℕ) → rest ≡ ahead read rest1 → rest1 ≡ ahead piece rest2 → rest ≡ ahead (read ++ piece) rest2
 rest_on rest rest1 rest2 read piece h k = h ∙ ap (λ (o : Option (List ℕ)). ahead read o) k ∙ ahead-ahead rest2 read piece
 
-pub far_on : {p : Profile} {j j' : Judging} {k k' : engine.EngineKept} {w w1 w2 : Option (List ℕ)} {r r1 r2 : Option ℕ} {rest rest1 rest2 : Option (List ℕ)} {taken : ℕ} (piece : List ℕ) (n : ℕ) →
-    (far : Far p j k w w1 r r1 rest rest1 taken) → rest1 ≡ ahead piece rest2 → length piece ≡ n →
-    (SoFar p far.read j k w w1 r r1 → SoFar p (far.read ++ piece) j' k' w w2 r r2) → Far p j' k' w w2 r r2 rest rest2 (taken + n)
+pub far_on : {p : Profile} {j j' : Judging} {k k' : engine.EngineKept} {w w1 w2 : Tells} {rest rest1 rest2 : Option (List ℕ)} {taken : ℕ} (piece : List ℕ) (n : ℕ) →
+    (far : Far p j k w w1 rest rest1 taken) → rest1 ≡ ahead piece rest2 → length piece ≡ n →
+    (SoFar p far.read j k w w1 → SoFar p (far.read ++ piece) j' k' w w2) → Far p j' k' w w2 rest rest2 (taken + n)
 far_on {rest = rest} {rest1} {rest2} piece n far h size next = record {
   read = far.read ++ piece;
   size = omega (arith, length-append far.read piece, far.size, size);
@@ -41,9 +41,9 @@ far_on {rest = rest} {rest1} {rest2} piece n far h size next = record {
   so_far = next far.so_far;
 }
 
-pub far_refused : {p : Profile} {j j' : Judging} {k k' : engine.EngineKept} {w w1 w2 : Option (List ℕ)} {r r1 r2 : Option ℕ} {rest rest1 rest2 : Option (List ℕ)} {taken : ℕ} (piece : List ℕ) (s : Stop) →
-    (far : Far p j k w w1 r r1 rest rest1 taken) → rest1 ≡ ahead piece rest2 → taken + length piece ≤ limit →
-    (SoFar p far.read j k w w1 r r1 → RefusedIn p (far.read ++ piece) s k' w w2 r r2) → Reads p (ended.Refused s) j' k' w w2 r r2 rest rest2
+pub far_refused : {p : Profile} {j j' : Judging} {k k' : engine.EngineKept} {w w1 w2 : Tells} {rest rest1 rest2 : Option (List ℕ)} {taken : ℕ} (piece : List ℕ) (s : Stop) →
+    (far : Far p j k w w1 rest rest1 taken) → rest1 ≡ ahead piece rest2 → taken + length piece ≤ limit →
+    (SoFar p far.read j k w w1 → RefusedIn p (far.read ++ piece) s k' w w2) → Reads p (ended.Refused s) j' k' w w2 rest rest2
 far_refused {rest = rest} {rest1} {rest2} piece s far h size next = record {
   read = far.read ++ piece;
   extra = [];
@@ -52,9 +52,9 @@ far_refused {rest = rest} {rest1} {rest2} piece s far h size next = record {
   ends = (refl, next far.so_far);
 }
 
-pub far_cut : {p : Profile} {j : Judging} {k k' : engine.EngineKept} {w w1 w2 : Option (List ℕ)} {r r1 : Option ℕ} {rest rest1 rest2 : Option (List ℕ)} {taken : ℕ} (piece : List ℕ) →
-    (far : Far p j k w w1 r r1 rest rest1 taken) → rest1 ≡ ahead piece rest2 → taken + length piece ≤ limit →
-    (SoFar p far.read j k w w1 r r1 → CutIn p (far.read ++ piece) k' w w2 r) → ReadsCut p k' w w2 r rest rest2
+pub far_cut : {p : Profile} {j : Judging} {k k' : engine.EngineKept} {w w1 w2 : Tells} {rest rest1 rest2 : Option (List ℕ)} {taken : ℕ} (piece : List ℕ) →
+    (far : Far p j k w w1 rest rest1 taken) → rest1 ≡ ahead piece rest2 → taken + length piece ≤ limit →
+    (SoFar p far.read j k w w1 → CutIn p (far.read ++ piece) k' w w2) → ReadsCut p k' w w2 rest rest2
 far_cut {rest = rest} {rest1} {rest2} piece far h size next = record {
   read = far.read ++ piece;
   size = omega (arith, length-append far.read piece, far.size, size);
@@ -63,9 +63,9 @@ far_cut {rest = rest} {rest1} {rest2} piece far h size next = record {
 }
 
 -- the end, with these bytes seen past those that are judged
-pub far_ends : {p : Profile} {j : Judging} {k : engine.EngineKept} {w w1 : Option (List ℕ)} {r r1 : Option ℕ} {rest rest1 rest2 : Option (List ℕ)} {taken : ℕ} (e : Ended) (extra : List ℕ) →
-    (far : Far p j k w w1 r r1 rest rest1 taken) → rest1 ≡ ahead extra rest2 → taken ≤ limit →
-    ((read : List ℕ) → length read ≡ taken → SoFar p read j k w w1 r r1 → EndsAs p e read extra rest2 j k w w1 r r1) → Reads p e j k w w1 r r1 rest rest2
+pub far_ends : {p : Profile} {j : Judging} {k : engine.EngineKept} {w w1 : Tells} {rest rest1 rest2 : Option (List ℕ)} {taken : ℕ} (e : Ended) (extra : List ℕ) →
+    (far : Far p j k w w1 rest rest1 taken) → rest1 ≡ ahead extra rest2 → taken ≤ limit →
+    ((read : List ℕ) → length read ≡ taken → SoFar p read j k w w1 → EndsAs p e read extra rest2 j k w w1) → Reads p e j k w w1 rest rest2
 far_ends {rest = rest} {rest1} {rest2} e extra far h size ends = record {
   read = far.read;
   extra = extra;
@@ -81,8 +81,8 @@ pub end_rest : (rest rest1 : Option (List ℕ)) → rest ≡ ahead [] rest1 → 
 end_rest rest rest1 h at_end = subst AtEnd (h ∙ ahead-nil rest1) at_end
 
 -- a look behind the most bytes that are judged
-pub behind_ends : {p : Profile} {j : Judging} {k : engine.EngineKept} {w w1 : Option (List ℕ)} {r r1 : Option ℕ} (e : Ended) (extra : List ℕ) (rest : Option (List ℕ)) → LooksBehind e extra rest →
-    (read : List ℕ) → length read ≡ limit → SoFar p read j k w w1 r r1 → EndsAs p e read extra rest j k w w1 r r1
+pub behind_ends : {p : Profile} {j : Judging} {k : engine.EngineKept} {w w1 : Tells} (e : Ended) (extra : List ℕ) (rest : Option (List ℕ)) → LooksBehind e extra rest →
+    (read : List ℕ) → length read ≡ limit → SoFar p read j k w w1 → EndsAs p e read extra rest j k w w1
 behind_ends ended.Whole extra rest h read size f = (h.0, h.1, f)
 behind_ends ended.Fault extra rest h read size f = (h, f)
 behind_ends ended.TooLong extra rest h read size f = (size, h, f)
@@ -97,13 +97,13 @@ front_of read file rest None w h = absurd (never (subst IsSome h w.0))
 front_of read file rest (Some left) w h = (left, sym w.1 ∙ h, refl)
 
 -- from the opening on
-pub taken_reads : {p : Profile} {e : Ended} {j : Judging} {k : engine.EngineKept} {w w1 : Option (List ℕ)} {r r1 : Option ℕ} {file rest rest' : Option (List ℕ)} (told opened : Bool) →
-    (told ≡ true → IsSome rest × (rest ≡ file)) → opened ≡ true → Reads p e j k w w1 r r1 rest rest' → Taken p e j k w w1 r r1 told file opened rest'
-taken_reads {file = file} {rest} {rest'} told opened whole is_open f = record {
+pub taken_reads : {p : Profile} {e : Ended} {j : Judging} {k : engine.EngineKept} {w w1 : Tells} {rest : Option (List ℕ)} (at : Asked) →
+    (at.told ≡ true → IsSome rest × (rest ≡ at.file)) → at.opened ≡ true → Reads p e j k w w1 rest at.rest → Taken p e j k w w1 at
+taken_reads {rest = rest} at whole is_open f = record {
   read = f.read;
   extra = f.extra;
   size = f.size;
-  from_file = λ t o. front_of (f.read ++ f.extra) file rest rest' (whole t) f.rest_is;
+  from_file = λ t o. front_of (f.read ++ f.extra) at.file rest at.rest (whole t) f.rest_is;
   nothing = λ closed. absurd (never (sym closed ∙ is_open));
   ends = f.ends;
 }
@@ -111,15 +111,15 @@ taken_reads {file = file} {rest} {rest'} told opened whole is_open f = record {
     never : false ≡ true → ⊥
     never h = cc
 
-pub taken_cut : {p : Profile} {k : engine.EngineKept} {w w1 : Option (List ℕ)} {r : Option ℕ} {file rest rest' : Option (List ℕ)} (told : Bool) →
-    (told ≡ true → IsSome rest × (rest ≡ file)) → ReadsCut p k w w1 r rest rest' → TakenCut p k w w1 r told file rest'
-taken_cut {file = file} {rest} {rest'} told whole f =
-    record { read = f.read; size = f.size; from_file = λ t. front_of f.read file rest rest' (whole t) f.rest_is; cut = f.cut }
+pub taken_cut : {p : Profile} {k : engine.EngineKept} {w w1 : Tells} {rest : Option (List ℕ)} (at : Asked) →
+    (at.told ≡ true → IsSome rest × (rest ≡ at.file)) → ReadsCut p k w w1 rest at.rest → TakenCut p k w w1 at
+taken_cut {rest = rest} at whole f =
+    record { read = f.read; size = f.size; from_file = λ t. front_of f.read at.file rest at.rest (whole t) f.rest_is; cut = f.cut }
 
 -- a file that couldn't be opened
-pub taken_nothing : {p : Profile} {j : Judging} {k : engine.EngineKept} {w w1 : Option (List ℕ)} {r r1 : Option ℕ} {file rest' : Option (List ℕ)} (told opened : Bool) →
-    SoFar p [] j k w w1 r r1 → opened ≡ false → Taken p ended.Fault j k w w1 r r1 told file opened rest'
-taken_nothing told opened f closed = record {
+pub taken_nothing : {p : Profile} {j : Judging} {k : engine.EngineKept} {w w1 : Tells} (at : Asked) →
+    SoFar p [] j k w w1 → at.opened ≡ false → Taken p ended.Fault j k w w1 at
+taken_nothing at f closed = record {
   read = [];
   extra = [];
   size = omega arith;

@@ -21,7 +21,7 @@ use Rattle.pl_cli.specs.declared.judging.Judging.{Judging}
 use Rattle.pl_cli.specs.declared.judging.Ended as declared
 use Rattle.pl_cli.specs.declared.judging.Ended.TheVariants as ended
 use Rattle.pl_cli.specs.Output.{How, Whole, TooLong, Fault, cause_of, cause_of_ending, cause_status, cut, how_of, last_text, limit, lines, output, status, status_of, stop_status, verdicts_of}
-use Rattle.pl_cli.specs.Progress.{EndsAs, ShelfCause, Taken, TakenCut, is_fault, last_cause, verdicts_in}
+use Rattle.pl_cli.specs.Progress.{Tells, asked, tells, EndsAs, ShelfCause, Taken, TakenCut, is_fault, last_cause, verdicts_in}
 use Rattle.pl_cli.specs.Promise.{Answers, CaptureRead, IsFront, Judges, Opens, judged, unread}
 use Rattle.pl_cli.specs.Words.{IsJudged}
 use Rattle.pl_cli.proofs.Ends.{Finishes, cut_part, fault_cause, fault_text, finishes}
@@ -48,16 +48,16 @@ answers_text {T = T} {text} {text'} {status} {status'} {old} {new} {answer} t s 
     subst (λ (x : List ℕ). Answers T x status' old new answer) t (subst (λ (n : ℕ). Answers T text n old new answer) s a)
 
 -- where nothing more is told, what was read is the whole
-ends_untold : (p : Profile) (j : Judging) (k : engine.EngineKept) (w w1 : Option (List ℕ)) (r r1 : Option ℕ) (rest : Option (List ℕ)) (e : declared.Ended) (read extra : List ℕ) →
-    EndsAs p e read extra rest j k w w1 r r1 → EndsAs p e read extra (Some []) j k w w1 r r1
-ends_untold p j k w w1 r r1 rest ended.Whole read extra h = (h.0, refl, h.2)
-ends_untold p j k w w1 r r1 rest ended.Fault read extra h = h
-ends_untold p j k w w1 r r1 rest ended.TooLong read extra h = h
-ends_untold p j k w w1 r r1 rest (ended.Refused s) read extra h = h
+ends_untold : (p : Profile) (j : Judging) (k : engine.EngineKept) (w w1 : Tells) (rest : Option (List ℕ)) (e : declared.Ended) (read extra : List ℕ) →
+    EndsAs p e read extra rest j k w w1 → EndsAs p e read extra (Some []) j k w w1
+ends_untold p j k w w1 rest ended.Whole read extra h = (h.0, refl, h.2)
+ends_untold p j k w w1 rest ended.Fault read extra h = h
+ends_untold p j k w w1 rest ended.TooLong read extra h = h
+ends_untold p j k w w1 rest (ended.Refused s) read extra h = h
 
 module _ {H O : Type 0} {S : shelf.Ghosts H} {T : sink.Ghosts O} {p : Profile} {capture : List ℕ} {old new : H} {out mid out' : O} {answer : ℕ} where
   judges_file : {j : Judging} {k : engine.EngineKept} (e : declared.Ended) (bytes : List ℕ) →
-      Finishes p bytes j k (last_cause e j.reader) (T.written out) (T.written mid) (T.room out) (T.room mid) →
+      Finishes p bytes j k (last_cause e j.reader) (tells T out) (tells T mid) →
       CaptureRead S capture bytes old new → T.faults mid ≡ T.faults out →
       Answers T (last_text j.items j.verdicts (last_cause e j.reader)) (cause_status j.verdicts (last_cause e j.reader)) mid out' answer →
       Judges S T p capture old new out out' answer
@@ -66,7 +66,7 @@ module _ {H O : Type 0} {S : shelf.Ghosts H} {T : sink.Ghosts O} {p : Profile} {
 
   -- no fault of the shelf came
   judges_fine : {j : Judging} {k : engine.EngineKept} (e : declared.Ended) →
-      Taken p e j k (T.written out) (T.written mid) (T.room out) (T.room mid) (S.told old) (S.file old capture) (S.is_open new) (S.rest new) →
+      Taken p e j k (tells T out) (tells T mid) (asked S capture old new) →
       is_fault e ≡ false → Opens S capture old new → S.faults new ≡ S.faults old → T.faults mid ≡ T.faults out →
       Answers T (last_text j.items j.verdicts (last_cause e j.reader)) (cause_status j.verdicts (last_cause e j.reader)) mid out' answer →
       Judges S T p capture old new out out' answer
@@ -81,15 +81,15 @@ module _ {H O : Type 0} {S : shelf.Ghosts H} {T : sink.Ghosts O} {p : Profile} {
           let bytes : List ℕ = (t.read ++ t.extra) ++ q.0 in
           judges_file e bytes
           (finishes bytes t.read t.extra q.0 e
-          (subst (λ (x : Option (List ℕ)). EndsAs p e t.read t.extra x j k (T.written out) (T.written mid) (T.room out) (T.room mid)) q.2 t.ends) t.size refl fine)
+          (subst (λ (x : Option (List ℕ)). EndsAs p e t.read t.extra x j k (tells T out) (tells T mid)) q.2 t.ends) t.size refl fine)
           (record { opens = opens; is_open = is_open; is_file = λ _. q.1; kept = kept }) out-kept a
       by false untold =
           let bytes : List ℕ = (t.read ++ t.extra) ++ [] in
-          judges_file e bytes (finishes bytes t.read t.extra [] e (ends_untold p j k (T.written out) (T.written mid) (T.room out) (T.room mid) (S.rest new) e t.read t.extra t.ends) t.size refl fine)
+          judges_file e bytes (finishes bytes t.read t.extra [] e (ends_untold p j k (tells T out) (tells T mid) (S.rest new) e t.read t.extra t.ends) t.size refl fine)
           (record { opens = opens; is_open = is_open; is_file = λ told. absurd (false_is_true (sym untold ∙ told)); kept = kept }) out-kept a
 
   pub judges : {j : Judging} {k : engine.EngineKept} (e : declared.Ended) →
-      Taken p e j k (T.written out) (T.written mid) (T.room out) (T.room mid) (S.told old) (S.file old capture) (S.is_open new) (S.rest new) →
+      Taken p e j k (tells T out) (tells T mid) (asked S capture old new) →
       Opens S capture old new → ShelfCause e (S.faults old) (S.faults new) → (S.sure old ≡ true → IsSome (S.file old capture) → is_fault e ≡ false) →
       T.faults mid ≡ T.faults out →
       Answers T (last_text j.items j.verdicts (last_cause e j.reader)) (cause_status j.verdicts (last_cause e j.reader)) mid out' answer →
@@ -102,6 +102,7 @@ module _ {H O : Type 0} {S : shelf.Ghosts H} {T : sink.Ghosts O} {p : Profile} {
       unread t.read
       (record {
         reads = record { opens = opens; nothing = λ closed. (t.nothing closed).0; from_file = front };
+        size = t.size;
         none_refused = fault_cause t.read t.ends.1;
         rose = cause;
         not_sure = λ s f. false_is_true (sym (sure s f));
@@ -114,7 +115,7 @@ module _ {H O : Type 0} {S : shelf.Ghosts H} {T : sink.Ghosts O} {p : Profile} {
 module _ {H O : Type 0} {S : shelf.Ghosts H} {T : sink.Ghosts O} {p : Profile} {capture : List ℕ} {old new : H} {out out' : O} {answer : ℕ} where
   -- the sink failed within the lines of an item
   pub judges_lost : {k : engine.EngineKept} →
-      TakenCut p k (T.written out) (T.written out') (T.room out) (S.told old) (S.file old capture) (S.rest new) →
+      TakenCut p k (tells T out) (tells T out') (asked S capture old new) →
       Opens S capture old new → S.is_open new ≡ true → S.faults new ≡ S.faults old → Rose (T.faults out) (T.faults out') → answer ≡ 8 →
       Judges S T p capture old new out out' answer
   judges_lost t opens is_open kept rose is8 = by (S.told old) refl

@@ -14,3 +14,4 @@ pub mod Judged
 pub mod Commands
 pub mod Checked
 pub mod Headline
+pub mod Statuses

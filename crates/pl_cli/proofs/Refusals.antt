@@ -14,7 +14,7 @@ use Rattle.pl_engine.specs.Verdicts.{blocked, history_after, refusal, refuse, ve
 use Rattle.pl_report.specs.Lines.{stop_text}
 use Rattle.pl_cli.specs.declared.judging.Judging.{Judging}
 use Rattle.pl_cli.specs.Output.{Cause, How, cause_of_ending, items_judged, lines, status, stop_status, text}
-use Rattle.pl_cli.specs.Progress.{verdicts_in, SoFar, RefusedIn, CutIn, Blocks, Loses, LostAtItem}
+use Rattle.pl_cli.specs.Progress.{verdicts_in, SoFar, RefusedIn, CutIn, Blocks, Loses, LostAtItem, Tells}
 use Rattle.pl_cli.proofs.Known.{engine_known, reader_known}
 use Rattle.pl_cli.proofs.Lists.{accepted_all, refusal-append}
 use Rattle.pl_cli.proofs.Texts.{all_judged, one_refused, one_more, text_by, status_by}
@@ -24,10 +24,10 @@ pub record Prefix (bytes : List ℕ) : Type 0 where
   pub items : (more : List ℕ) → (tail : List Entry) × ((reading (bytes ++ more)).items ≡ (reading bytes).items ++ tail)
 
 -- the reader refuses a record
-pub reader_refuses : {p : Profile} {k : engine.EngineKept} {w w1 : Option (List ℕ)} {r r1 : Option ℕ} {j : Judging} (before bytes : List ℕ) (s : Stop) →
-    SoFar p before j k w w1 r r1 → (reading bytes).items ≡ (reading before).items → (reading bytes).ending ≡ Bad s →
-    ((more : List ℕ) → reading (bytes ++ more) ≡ reading bytes) → RefusedIn p bytes s k w w1 r r1
-reader_refuses {p} {k} {w} {w1} {r} {r1} before bytes s f same bad stays =
+pub reader_refuses : {p : Profile} {k : engine.EngineKept} {w w1 : Tells} {j : Judging} (before bytes : List ℕ) (s : Stop) →
+    SoFar p before j k w w1 → (reading bytes).items ≡ (reading before).items → (reading bytes).ending ≡ Bad s →
+    ((more : List ℕ) → reading (bytes ++ more) ≡ reading bytes) → RefusedIn p bytes s k w w1
+reader_refuses {p} {k} {w} {w1} before bytes s f same bad stays =
     let none : refusal p [] (reading bytes).items ≡ None = ap (refusal p []) same ∙ f.accepted in
     let vs : verdicts_in p bytes ≡ verdicts_in p before = ap (verdicts_after p []) same in
     record {
@@ -49,10 +49,10 @@ reader_refuses {p} {k} {w} {w1} {r} {r1} before bytes s f same bad stays =
     }
 
 -- the engine refuses the item that ends these bytes
-pub engine_refuses : {p : Profile} {k k' : engine.EngineKept} {w w1 w2 : Option (List ℕ)} {r r1 r2 : Option ℕ} {j : Judging} (before bytes : List ℕ) (x : Entry) (s : Stop) →
-    SoFar p before j k w w1 r r1 → (reading bytes).items ≡ (reading before).items ++ x ∷ [] → Prefix bytes →
-    Blocks (history_after [] (reading before).items) x s k k' w1 w2 r1 r2 → RefusedIn p bytes s k' w w2 r r2
-engine_refuses {p} {k} {k'} {w} {w1} {w2} {r} {r1} {r2} before bytes x s f more prefix b =
+pub engine_refuses : {p : Profile} {k k' : engine.EngineKept} {w w1 w2 : Tells} {j : Judging} (before bytes : List ℕ) (x : Entry) (s : Stop) →
+    SoFar p before j k w w1 → (reading bytes).items ≡ (reading before).items ++ x ∷ [] → Prefix bytes →
+    Blocks (history_after [] (reading before).items) x s k k' w1 w2 → RefusedIn p bytes s k' w w2
+engine_refuses {p} {k} {k'} {w} {w1} {w2} before bytes x s f more prefix b =
     let xs : List Entry = (reading before).items in
     let past : List Entry = history_after [] xs in
     let is_blocked : blocked p past x ≡ Some b.refused = ap (λ (q : Profile). blocked q past x) (sym f.profile_is) ∙ b.is_blocked in
@@ -72,8 +72,8 @@ engine_refuses {p} {k} {k'} {w} {w1} {w2} {r} {r1} {r2} before bytes x s f more 
     }
 
 -- bytes behind a refusal change nothing
-pub refused_before : {p : Profile} {s : Stop} {k : engine.EngineKept} {w w1 : Option (List ℕ)} {r r1 : Option ℕ} (bytes rest : List ℕ) →
-    RefusedIn p bytes s k w w1 r r1 → RefusedIn p (bytes ++ rest) s k w w1 r r1
+pub refused_before : {p : Profile} {s : Stop} {k : engine.EngineKept} {w w1 : Tells} (bytes rest : List ℕ) →
+    RefusedIn p bytes s k w w1 → RefusedIn p (bytes ++ rest) s k w w1
 refused_before {p} {s} {k} bytes rest f =
     let group : (more : List ℕ) → reading ((bytes ++ rest) ++ more) ≡ reading (bytes ++ (rest ++ more)) = λ more. ap reading (append_assoc bytes rest more) in
     record {
@@ -103,10 +103,10 @@ part_behind w w1 w2 before here rest h part = record {
 }
 
 -- the sink fails within the lines of the item that ends these bytes
-pub sink_fails : {p : Profile} {k k' : engine.EngineKept} {w w1 w2 : Option (List ℕ)} {r r1 : Option ℕ} {j : Judging} (before bytes : List ℕ) (x : Entry) →
-    SoFar p before j k w w1 r r1 → (reading bytes).items ≡ (reading before).items ++ x ∷ [] → Prefix bytes →
-    Loses (history_after [] (reading before).items) x k k' w1 w2 r1 → CutIn p bytes k' w w2 r
-sink_fails {p} {k} {k'} {w} {w1} {w2} {r} {r1} before bytes x f more prefix l =
+pub sink_fails : {p : Profile} {k k' : engine.EngineKept} {w w1 w2 : Tells} {j : Judging} (before bytes : List ℕ) (x : Entry) →
+    SoFar p before j k w w1 → (reading bytes).items ≡ (reading before).items ++ x ∷ [] → Prefix bytes →
+    Loses (history_after [] (reading before).items) x k k' w1 w2 → CutIn p bytes k' w w2
+sink_fails {p} {k} {k'} {w} {w1} {w2} before bytes x f more prefix l =
     let xs : List Entry = (reading before).items in
     let past : List Entry = history_after [] xs in
     let allowed : blocked p past x ≡ None = ap (λ (q : Profile). blocked q past x) (sym f.profile_is) ∙ l.allowed in
@@ -123,24 +123,24 @@ sink_fails {p} {k} {k'} {w} {w1} {w2} {r} {r1} before bytes x f more prefix l =
         items_are = items m;
         none_refused = refusal-append p [] xs (x ∷ []) f.accepted ∙ ap (λ (o : Option Refused). refuse o (number_after past) None) allowed;
         engine_stands = l.engine_stands;
-        part = subst (λ (v : Option (List ℕ)). Partly v w2 here) f.written (subst (Partly w1 w2) here_is l.part);
+        part = subst (λ (v : Option (List ℕ)). Partly v w2.written here) f.written (subst (Partly w1.written w2.written) here_is l.part);
       };
-      part = λ m how. subst (Partly w w2) (sym (one m how).1)
-          (part_behind w w1 w2 (lines (verdicts_in p before)) here (one m how).0 f.written (subst (Partly w1 w2) here_is l.part));
-      no_room = λ m how room. l.no_room (subst (λ (t : List ℕ). HasRoom r1 (length t)) (sym here_is)
-          (f.room_left (length here) (less_room r (length (lines (verdicts_in p before)) + length here) _
-          (enough (lines (verdicts_in p before)) here (one m how).0) (subst (λ (t : List ℕ). HasRoom r (length t)) (one m how).1 room))));
+      part = λ m how. subst (Partly w.written w2.written) (sym (one m how).1)
+          (part_behind w.written w1.written w2.written (lines (verdicts_in p before)) here (one m how).0 f.written (subst (Partly w1.written w2.written) here_is l.part));
+      no_room = λ m how room. l.no_room (subst (λ (t : List ℕ). HasRoom w1.room (length t)) (sym here_is)
+          (f.room_left (length here) (less_room w.room (length (lines (verdicts_in p before)) + length here) _
+          (enough (lines (verdicts_in p before)) here (one m how).0) (subst (λ (t : List ℕ). HasRoom w.room (length t)) (one m how).1 room))));
     }
   where
     enough : (a b c : List ℕ) → length a + length b ≤ length (a ++ (b ++ c))
     enough a b c = omega (arith, length-append a (b ++ c), length-append b c)
 
-pub cut_before : {p : Profile} {k : engine.EngineKept} {w w1 : Option (List ℕ)} {r : Option ℕ} (bytes rest : List ℕ) → CutIn p bytes k w w1 r → CutIn p (bytes ++ rest) k w w1 r
-cut_before {p} {k} {w} {w1} {r} bytes rest f =
+pub cut_before : {p : Profile} {k : engine.EngineKept} {w w1 : Tells} (bytes rest : List ℕ) → CutIn p bytes k w w1 → CutIn p (bytes ++ rest) k w w1
+cut_before {p} {k} {w} {w1} bytes rest f =
     let group : (more : List ℕ) (how : How) → text p (reading ((bytes ++ rest) ++ more)) how ≡ text p (reading (bytes ++ (rest ++ more))) how =
     λ more how. ap (λ (l : List ℕ). text p (reading l) how) (append_assoc bytes rest more) in
     record {
-      at_item = λ more. subst (λ (l : List ℕ). LostAtItem p (reading l).items k w w1) (sym (append_assoc bytes rest more)) (f.at_item (rest ++ more));
-      part = λ more how. subst (Partly w w1) (sym (group more how)) (f.part (rest ++ more) how);
-      no_room = λ more how room. f.no_room (rest ++ more) how (subst (λ (t : List ℕ). HasRoom r (length t)) (group more how) room);
+      at_item = λ more. subst (λ (l : List ℕ). LostAtItem p (reading l).items k w.written w1.written) (sym (append_assoc bytes rest more)) (f.at_item (rest ++ more));
+      part = λ more how. subst (Partly w.written w1.written) (sym (group more how)) (f.part (rest ++ more) how);
+      no_room = λ more how room. f.no_room (rest ++ more) how (subst (λ (t : List ℕ). HasRoom w.room (length t)) (group more how) room);
     }

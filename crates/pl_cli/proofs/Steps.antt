@@ -12,15 +12,15 @@ use Rattle.pl_engine.specs.Engine as engine
 use Rattle.pl_engine.specs.Verdicts.{blocked, history_after, refusal, verdicts_after, verdicts_at}
 use Rattle.pl_cli.specs.declared.judging.Judging.{Judging}
 use Rattle.pl_cli.specs.Output.{lines}
-use Rattle.pl_cli.specs.Progress.{verdicts_in, SoFar, Accepts}
+use Rattle.pl_cli.specs.Progress.{verdicts_in, SoFar, Accepts, Tells}
 use Rattle.pl_cli.proofs.Lists.{history-append, refusal-append, verdicts-append}
 use Rattle.pl_cli.proofs.Texts.{lines-append}
 
 -- by an answer that gave no item
-pub so_far_on : {p : Profile} {k : engine.EngineKept} {w w1 : Option (List ℕ)} {r r1 : Option ℕ} {j : Judging} (before bytes : List ℕ) (j' : Judging) →
-    SoFar p before j k w w1 r r1 → (reading bytes).items ≡ (reading before).items → reader.StandsFor j'.reader bytes →
-    ((s : Stop) → (reading bytes).ending ≡ Bad s → ⊥) → j'.items ≡ j.items → j'.verdicts ≡ j.verdicts → SoFar p bytes j' k w w1 r r1
-so_far_on {p} {k} {w} {w1} {r} {r1} {j} before bytes j' f same stands goes i v =
+pub so_far_on : {p : Profile} {k : engine.EngineKept} {w w1 : Tells} {j : Judging} (before bytes : List ℕ) (j' : Judging) →
+    SoFar p before j k w w1 → (reading bytes).items ≡ (reading before).items → reader.StandsFor j'.reader bytes →
+    ((s : Stop) → (reading bytes).ending ≡ Bad s → ⊥) → j'.items ≡ j.items → j'.verdicts ≡ j.verdicts → SoFar p bytes j' k w w1
+so_far_on {p} {k} {w} {w1} {j} before bytes j' f same stands goes i v =
     let vs : verdicts_in p bytes ≡ verdicts_in p before = ap (verdicts_after p []) same in
     record {
       profile_is = f.profile_is;
@@ -30,16 +30,16 @@ so_far_on {p} {k} {w} {w1} {r} {r1} {j} before bytes j' f same stands goes i v =
       accepted = ap (refusal p []) same ∙ f.accepted;
       items = i ∙ f.items ∙ sym (ap (λ (xs : List Entry). length xs) same);
       verdicts = v ∙ f.verdicts ∙ sym (ap (λ (xs : List Verdict). length xs) vs);
-      written = f.written ∙ sym (ap (λ (xs : List Verdict). plus w (lines xs)) vs);
-      room_left = λ n room. f.room_left n (subst (λ (xs : List Verdict). HasRoom r (length (lines xs) + n)) vs room);
+      written = f.written ∙ sym (ap (λ (xs : List Verdict). plus w.written (lines xs)) vs);
+      room_left = λ n room. f.room_left n (subst (λ (xs : List Verdict). HasRoom w.room (length (lines xs) + n)) vs room);
     }
 
 -- by an item that was judged
-pub so_far_item : {p : Profile} {k k' : engine.EngineKept} {w w1 w2 : Option (List ℕ)} {r r1 r2 : Option ℕ} {j j' : Judging} (before bytes : List ℕ) (x : Entry) (j1 : Judging) →
-    SoFar p before j k w w1 r r1 → (reading bytes).items ≡ (reading before).items ++ x ∷ [] → reader.StandsFor j'.reader bytes →
+pub so_far_item : {p : Profile} {k k' : engine.EngineKept} {w w1 w2 : Tells} {j j' : Judging} (before bytes : List ℕ) (x : Entry) (j1 : Judging) →
+    SoFar p before j k w w1 → (reading bytes).items ≡ (reading before).items ++ x ∷ [] → reader.StandsFor j'.reader bytes →
     ((s : Stop) → (reading bytes).ending ≡ Bad s → ⊥) → j1.items ≡ j.items → j1.verdicts ≡ j.verdicts →
-    Accepts (history_after [] (reading before).items) x j1 j' k k' w1 w2 r1 r2 → SoFar p bytes j' k' w w2 r r2
-so_far_item {p} {k} {k'} {w} {w1} {w2} {r} {r1} {r2} {j} {j'} before bytes x j1 f more stands goes i v a =
+    Accepts (history_after [] (reading before).items) x j1 j' k k' w1 w2 → SoFar p bytes j' k' w w2
+so_far_item {p} {k} {k'} {w} {w1} {w2} {j} {j'} before bytes x j1 f more stands goes i v a =
     let xs : List Entry = (reading before).items in
     let past : List Entry = history_after [] xs in
     let here : List Verdict = verdicts_at p past x in
@@ -57,10 +57,10 @@ so_far_item {p} {k} {k'} {w} {w1} {w2} {r} {r1} {r2} {j} {j'} before bytes x j1 
       verdicts = a.verdicts ∙ ap (λ (n : ℕ). n + length (verdicts_at k.profile past x)) (v ∙ f.verdicts)
           ∙ ap (λ (l : List Verdict). length (verdicts_in p before) + length l) here_is
           ∙ sym (ap (λ (l : List Verdict). length l) vs ∙ length-append (verdicts_in p before) here);
-      written = a.written ∙ ap (λ (l : List Verdict). plus w1 (lines l)) here_is ∙ ap (λ (o : Option (List ℕ)). plus o (lines here)) f.written
-          ∙ plus-plus w (lines (verdicts_in p before)) (lines here) ∙ sym (ap (plus w) ls);
-      room_left = λ n room. a.room_left n (subst (λ (l : List Verdict). HasRoom r1 (length (lines l) + n)) (sym here_is)
-          (f.room_left (length (lines here) + n) (subst (HasRoom r)
+      written = a.written ∙ ap (λ (l : List Verdict). plus w1.written (lines l)) here_is ∙ ap (λ (o : Option (List ℕ)). plus o (lines here)) f.written
+          ∙ plus-plus w.written (lines (verdicts_in p before)) (lines here) ∙ sym (ap (plus w.written) ls);
+      room_left = λ n room. a.room_left n (subst (λ (l : List Verdict). HasRoom w1.room (length (lines l) + n)) (sym here_is)
+          (f.room_left (length (lines here) + n) (subst (HasRoom w.room)
           (ap (λ (l : List ℕ). length l + n) ls ∙ ap (λ (m : ℕ). m + n) (length-append (lines (verdicts_in p before)) (lines here))
           ∙ add_assoc (length (lines (verdicts_in p before))) (length (lines here)) n) room)));
     }

@@ -3,7 +3,6 @@ use Rattle.std.proofs.Common.{◌≡◌, ◌≢◌, ◌++◌, ◌+◌, ◌≤◌
 use Rattle.std.proofs.lemmas.List.{take_all, take_at}
 use Rattle.pl_base.specs.declared.stop.Stop.{Stop}
 use Rattle.pl_io.specs.declared.sink.Sink as sink
-use Rattle.pl_io.specs.Faults.{Rose}
 use Rattle.pl_io.specs.Told.{plus, ahead, HasRoom, Partly}
 use Rattle.pl_io.proofs.Told.{plus-plus}
 use Rattle.pl_capture.specs.Entry.{Entry}
@@ -17,18 +16,18 @@ use Rattle.pl_cli.specs.declared.judging.Ended as declared
 use Rattle.pl_cli.specs.declared.judging.Ended.TheVariants as ended
 use Rattle.pl_cli.specs.Output.{AtFault, Fault, cause, cause_status, cut, items_judged, last_text, limit, lines, output, status_of}
 use Rattle.pl_cli.specs.Promise.{Answers, IsFront}
-use Rattle.pl_cli.specs.Progress.{EndsAs, LostAtEnd, LostAtItem, ReadOf, RefusedIn, ShelfCause, SoFar, Taken, TakenCut, is_fault, last_cause, nothing_judged, verdicts_in}
+use Rattle.pl_cli.specs.Progress.{Asked, Tells, tells, EndsAs, LostAtEnd, LostAtItem, ReadOf, RefusedIn, SoFar, Taken, TakenCut, is_fault, last_cause, nothing_judged, verdicts_in}
 use Rattle.pl_cli.proofs.Lists.{accepted_all}
 use Rattle.pl_cli.proofs.Ends.{Finishes, fault_cause, fault_text, finishes}
 
 -- the last line was written, or a part of it for which there was no room
-pub record Closed (old new : Option (List ℕ)) (room : Option ℕ) (last : List ℕ) (status answer : ℕ) : Type 0 where
-  pub done : answer ≢ 8 → (new ≡ plus old last) × (answer ≡ status)
-  pub part : answer ≡ 8 → Partly old new last
-  pub no_room : answer ≡ 8 → HasRoom room (length last) → ⊥
+pub record Closed (old new : Tells) (last : List ℕ) (status answer : ℕ) : Type 0 where
+  pub done : answer ≢ 8 → (new.written ≡ plus old.written last) × (answer ≡ status)
+  pub part : answer ≡ 8 → Partly old.written new.written last
+  pub no_room : answer ≡ 8 → HasRoom old.room (length last) → ⊥
 
 pub closed_of : {O : Type 0} {T : sink.Ghosts O} {last : List ℕ} {status : ℕ} {old new : O} {answer : ℕ} →
-    Answers T last status old new answer → Closed (T.written old) (T.written new) (T.room old) last status answer
+    Answers T last status old new answer → Closed (tells T old) (tells T new) last status answer
 closed_of a = record { done = λ n8. (a.written n8, a.answered n8); part = a.part; no_room = a.no_room }
 
 -- a file that is told, as the bytes that were read and the rest
@@ -40,18 +39,6 @@ some_same a b file h k = cc
 
 pub false_is_true : false ≡ true → ⊥
 false_is_true h = cc
-
-pub cause_kept : (e : declared.Ended) (before now : ℕ) → is_fault e ≡ false → ShelfCause e before now → now ≡ before
-cause_kept ended.Whole before now fine h = h
-cause_kept ended.Fault before now fine h = absurd (false_is_true (sym fine))
-cause_kept ended.TooLong before now fine h = h
-cause_kept (ended.Refused s) before now fine h = h
-
-pub cause_rose : (e : declared.Ended) (before now : ℕ) → is_fault e ≡ true → ShelfCause e before now → Rose before now
-cause_rose ended.Whole before now faulty h = absurd (false_is_true faulty)
-cause_rose ended.Fault before now faulty h = h
-cause_rose ended.TooLong before now faulty h = absurd (false_is_true faulty)
-cause_rose (ended.Refused s) before now faulty h = absurd (false_is_true faulty)
 
 -- a fault of the shelf is the status 7, unless the sink failed
 pub not_fault : (e : declared.Ended) (answer : ℕ) → (is_fault e ≡ true → answer ≢ 8 → answer ≡ 7) → answer ≢ 7 → answer ≢ 8 → is_fault e ≡ false
@@ -65,32 +52,32 @@ was_opened true read e h fine = refl
 was_opened false read e h fine = absurd (false_is_true (sym fine ∙ (h refl).1))
 
 -- where no fault of the shelf came, what was taken of a told file is all that is judged
-pub taken_finishes : {p : Profile} {e : declared.Ended} {j : Judging} {k : engine.EngineKept} {w w1 : Option (List ℕ)} {r r1 : Option ℕ} {told opened : Bool} {file rest : Option (List ℕ)} →
-    Taken p e j k w w1 r r1 told file opened rest → (b : List ℕ) → told ≡ true → file ≡ Some b → is_fault e ≡ false →
-    Finishes p b j k (last_cause e j.reader) w w1 r r1
-taken_finishes {p} {e} {j} {k} {w} {w1} {r} {r1} {opened = opened} {rest = rest} t b told_is file_is fine =
-    let o : opened ≡ true = was_opened opened t.read e t.nothing fine in
+pub taken_finishes : {p : Profile} {e : declared.Ended} {j : Judging} {k : engine.EngineKept} {w w1 : Tells} {at : Asked} →
+    Taken p e j k w w1 at → (b : List ℕ) → at.told ≡ true → at.file ≡ Some b → is_fault e ≡ false →
+    Finishes p b j k (last_cause e j.reader) w w1
+taken_finishes {p} {e} {j} {k} {w} {w1} {at = at} t b told_is file_is fine =
+    let o : at.opened ≡ true = was_opened at.opened t.read e t.nothing fine in
     let q = t.from_file told_is o in
-    finishes b t.read t.extra q.0 e (subst (λ (x : Option (List ℕ)). EndsAs p e t.read t.extra x j k w w1 r r1) q.2 t.ends) t.size (some_same b _ _ file_is q.1) fine
+    finishes b t.read t.extra q.0 e (subst (λ (x : Option (List ℕ)). EndsAs p e t.read t.extra x j k w w1) q.2 t.ends) t.size (some_same b _ _ file_is q.1) fine
 
-pub top_exact : {p : Profile} {e : declared.Ended} {j : Judging} {k : engine.EngineKept} {w w1 w2 : Option (List ℕ)} {r r1 : Option ℕ} {told opened : Bool} {file rest : Option (List ℕ)} (answer : ℕ) →
-    Taken p e j k w w1 r r1 told file opened rest →
-    Closed w1 w2 r1 (last_text j.items j.verdicts (last_cause e j.reader)) (cause_status j.verdicts (last_cause e j.reader)) answer →
+pub top_exact : {p : Profile} {e : declared.Ended} {j : Judging} {k : engine.EngineKept} {w w1 w2 : Tells} {at : Asked} (answer : ℕ) →
+    Taken p e j k w w1 at →
+    Closed w1 w2 (last_text j.items j.verdicts (last_cause e j.reader)) (cause_status j.verdicts (last_cause e j.reader)) answer →
     (is_fault e ≡ true → answer ≢ 8 → answer ≡ 7) →
-    told ≡ true → (b : List ℕ) → file ≡ Some b → answer ≢ 7 → answer ≢ 8 →
-    (w2 ≡ plus w (output p b)) × (answer ≡ status_of p b) × engine.StandsFor k (history_after [] (items_judged p (reading (take limit b))))
+    at.told ≡ true → (b : List ℕ) → at.file ≡ Some b → answer ≢ 7 → answer ≢ 8 →
+    (w2.written ≡ plus w.written (output p b)) × (answer ≡ status_of p b) × engine.StandsFor k (history_after [] (items_judged p (reading (take limit b))))
 top_exact {p} {e} {j} {w = w} {w2 = w2} answer t cl f told_is b file_is n7 n8 =
     let fin = taken_finishes t b told_is file_is (not_fault e answer f n7 n8) in
     let last : List ℕ = last_text j.items j.verdicts (last_cause e j.reader) in
-    let written : w2 ≡ plus w (output p b) =
-    (cl.done n8).0 ∙ ap (λ (v : Option (List ℕ)). plus v last) fin.written ∙ plus-plus w fin.before last ∙ ap (plus w) (sym fin.text) in
+    let written : w2.written ≡ plus w.written (output p b) =
+    (cl.done n8).0 ∙ ap (λ (v : Option (List ℕ)). plus v last) fin.written ∙ plus-plus w.written fin.before last ∙ ap (plus w.written) (sym fin.text) in
     (written, (cl.done n8).1 ∙ sym fin.status, fin.engine_stands)
 
 -- what was read of a told file before a fault of the shelf
-fault_read : {p : Profile} {j : Judging} {k : engine.EngineKept} {w w1 : Option (List ℕ)} {r r1 : Option ℕ} {told opened : Bool} {file rest : Option (List ℕ)} →
-    (t : Taken p ended.Fault j k w w1 r r1 told file opened rest) → (b : List ℕ) → told ≡ true → file ≡ Some b → ReadOf b opened rest t.read
-fault_read {file = file} {rest} t b told_is file_is = record {
-  from_file = λ o. sym file_is ∙ front_ahead (t.read ++ t.extra) file rest (t.from_file told_is o) ∙ ap (λ (l : List ℕ). ahead (t.read ++ l) rest) t.ends.0 ∙ ap (λ (l : List ℕ). ahead l rest) (append-nil t.read);
+fault_read : {p : Profile} {j : Judging} {k : engine.EngineKept} {w w1 : Tells} {at : Asked} →
+    (t : Taken p ended.Fault j k w w1 at) → (b : List ℕ) → at.told ≡ true → at.file ≡ Some b → ReadOf b at.opened at.rest t.read
+fault_read {at = at} t b told_is file_is = record {
+  from_file = λ o. sym file_is ∙ front_ahead (t.read ++ t.extra) at.file at.rest (t.from_file told_is o) ∙ ap (λ (l : List ℕ). ahead (t.read ++ l) at.rest) t.ends.0 ∙ ap (λ (l : List ℕ). ahead l at.rest) (append-nil t.read);
   nothing = λ o. (t.nothing o).0;
 }
 
@@ -103,11 +90,11 @@ behind_lines w w1 w2 before last h part = record {
   written = part.written ∙ ap (λ (v : Option (List ℕ)). plus v part.part) h ∙ plus-plus w before part.part;
 }
 
-pub top_cut : {p : Profile} {j : Judging} {k : engine.EngineKept} {w w1 w2 : Option (List ℕ)} {r r1 : Option ℕ} {told opened : Bool} {file rest : Option (List ℕ)} (e : declared.Ended) (answer : ℕ) →
-    Taken p e j k w w1 r r1 told file opened rest →
-    Closed w1 w2 r1 (last_text j.items j.verdicts (last_cause e j.reader)) (cause_status j.verdicts (last_cause e j.reader)) answer →
-    (answer ≡ 7 → is_fault e ≡ true) → told ≡ true → (b : List ℕ) → file ≡ Some b → answer ≡ 7 →
-    (read : List ℕ) × ReadOf b opened rest read × (cause p (reading read) Fault ≡ AtFault) × (w2 ≡ plus w (cut p read))
+pub top_cut : {p : Profile} {j : Judging} {k : engine.EngineKept} {w w1 w2 : Tells} {at : Asked} (e : declared.Ended) (answer : ℕ) →
+    Taken p e j k w w1 at →
+    Closed w1 w2 (last_text j.items j.verdicts (last_cause e j.reader)) (cause_status j.verdicts (last_cause e j.reader)) answer →
+    (answer ≡ 7 → is_fault e ≡ true) → at.told ≡ true → (b : List ℕ) → at.file ≡ Some b → answer ≡ 7 →
+    (read : List ℕ) × ReadOf b at.opened at.rest read × (cause p (reading read) Fault ≡ AtFault) × (w2.written ≡ plus w.written (cut p read))
     × engine.StandsFor k (history_after [] (reading read).items)
 top_cut ended.Whole answer t cl f told_is b file_is is7 = absurd (false_is_true (f is7))
 top_cut {p} {j} {w = w} {w2 = w2} ended.Fault answer t cl f told_is b file_is is7 =
@@ -115,32 +102,32 @@ top_cut {p} {j} {w = w} {w2 = w2} ended.Fault answer t cl f told_is b file_is is
     let s = t.ends.1 in
     let before : List ℕ = lines (verdicts_in p t.read) in
     let last : List ℕ = last_text j.items j.verdicts AtFault in
-    let written : w2 ≡ plus w (cut p t.read) =
-    (cl.done n8).0 ∙ ap (λ (v : Option (List ℕ)). plus v last) s.written ∙ plus-plus w before last ∙ ap (plus w) (sym (fault_text t.read s)) in
+    let written : w2.written ≡ plus w.written (cut p t.read) =
+    (cl.done n8).0 ∙ ap (λ (v : Option (List ℕ)). plus v last) s.written ∙ plus-plus w.written before last ∙ ap (plus w.written) (sym (fault_text t.read s)) in
     (t.read, fault_read t b told_is file_is, fault_cause t.read s, written, s.engine_stands)
 top_cut ended.TooLong answer t cl f told_is b file_is is7 = absurd (false_is_true (f is7))
 top_cut (ended.Refused s) answer t cl f told_is b file_is is7 = absurd (false_is_true (f is7))
 
 -- the sink failed within the last line behind these bytes
-so_far_lost : {p : Profile} {j : Judging} {k : engine.EngineKept} {w w1 w2 : Option (List ℕ)} {r r1 : Option ℕ} (read last : List ℕ) →
-    SoFar p read j k w w1 r r1 → Partly w1 w2 last → LostAtEnd p (reading read).items k w w2
-so_far_lost {p} {k = k} {w = w} {w2 = w2} read last f part =
+so_far_lost : {p : Profile} {j : Judging} {k : engine.EngineKept} {w w1 : Tells} {now : Option (List ℕ)} (read last : List ℕ) →
+    SoFar p read j k w w1 → Partly w1.written now last → LostAtEnd p (reading read).items k w.written now
+so_far_lost {p} {k = k} {w = w} {now = now} read last f part =
     let all : accepted p [] (reading read).items ≡ (reading read).items = accepted_all p [] (reading read).items f.accepted in
     record {
       engine_stands = subst (λ (xs : List Entry). engine.StandsFor k (history_after [] xs)) (sym all) f.engine_stands;
       last = last;
-      part = subst (λ (v : Option (List ℕ)). Partly v w2 last) (f.written ∙ ap (λ (xs : List Entry). plus w (lines (verdicts_after p [] xs))) (sym all)) part;
+      part = subst (λ (v : Option (List ℕ)). Partly v now last) (f.written ∙ ap (λ (xs : List Entry). plus w.written (lines (verdicts_after p [] xs))) (sym all)) part;
     }
 
-refused_lost : {p : Profile} {k : engine.EngineKept} {w w1 w2 : Option (List ℕ)} {r r1 : Option ℕ} (read last : List ℕ) (s : Stop) →
-    RefusedIn p read s k w w1 r r1 → Partly w1 w2 last → LostAtEnd p (reading read).items k w w2
-refused_lost {p} {k} {w} {w2 = w2} read last s f part =
+refused_lost : {p : Profile} {k : engine.EngineKept} {w w1 : Tells} {now : Option (List ℕ)} (read last : List ℕ) (s : Stop) →
+    RefusedIn p read s k w w1 → Partly w1.written now last → LostAtEnd p (reading read).items k w.written now
+refused_lost {p} {k} {w} {now = now} read last s f part =
     let same : reading (read ++ []) ≡ reading read = ap reading (append-nil read) in
     record {
       engine_stands = subst (λ (x : Reading). engine.StandsFor k (history_after [] (items_judged p x))) same (f.engine_stands []);
       last = last;
-      part = subst (λ (v : Option (List ℕ)). Partly v w2 last)
-          (f.written ∙ ap (plus w) (f.lines_are [] ∙ ap (λ (x : Reading). lines (verdicts_after p [] (items_judged p x))) same)) part;
+      part = subst (λ (v : Option (List ℕ)). Partly v now last)
+          (f.written ∙ ap (plus w.written) (f.lines_are [] ∙ ap (λ (x : Reading). lines (verdicts_after p [] (items_judged p x))) same)) part;
     }
 
 -- what was seen past the most bytes that are judged isn't judged
@@ -149,46 +136,46 @@ front_judged read extra le (inl none) = ap (λ (l : List ℕ). take limit (read 
 front_judged read extra le (inr all) = take_at read extra limit all
 
 -- for which items the engine stands, where the sink failed within the last line
-pub top_lost_end : {p : Profile} {j : Judging} {k : engine.EngineKept} {w w1 w2 : Option (List ℕ)} {r r1 : Option ℕ} {told opened : Bool} {file rest : Option (List ℕ)} (e : declared.Ended) (answer : ℕ) →
-    Taken p e j k w w1 r r1 told file opened rest →
-    Closed w1 w2 r1 (last_text j.items j.verdicts (last_cause e j.reader)) (cause_status j.verdicts (last_cause e j.reader)) answer →
-    told ≡ true → (b : List ℕ) → file ≡ Some b → answer ≡ 8 →
-    (read : List ℕ) × ReadOf b opened rest read × (LostAtItem p (reading (take limit read)).items k w w2 ⊎ LostAtEnd p (reading (take limit read)).items k w w2)
-top_lost_end {p} {j} {k} {w} {w1} {w2} {r} {r1} {opened = opened} {file} {rest} e answer t cl told_is b file_is is8 =
+pub top_lost_end : {p : Profile} {j : Judging} {k : engine.EngineKept} {w w1 w2 : Tells} {at : Asked} (e : declared.Ended) (answer : ℕ) →
+    Taken p e j k w w1 at →
+    Closed w1 w2 (last_text j.items j.verdicts (last_cause e j.reader)) (cause_status j.verdicts (last_cause e j.reader)) answer →
+    at.told ≡ true → (b : List ℕ) → at.file ≡ Some b → answer ≡ 8 →
+    (read : List ℕ) × ReadOf b at.opened at.rest read × (LostAtItem p (reading (take limit read)).items k w.written w2.written ⊎ LostAtEnd p (reading (take limit read)).items k w.written w2.written)
+top_lost_end {p} {j} {k} {w} {w1} {w2} {at = at} e answer t cl told_is b file_is is8 =
     let both = by e t.ends in (
       t.read ++ t.extra,
       record {
-        from_file = λ o. sym file_is ∙ front_ahead (t.read ++ t.extra) file rest (t.from_file told_is o);
+        from_file = λ o. sym file_is ∙ front_ahead (t.read ++ t.extra) at.file at.rest (t.from_file told_is o);
         nothing = λ o. ap (λ (l : List ℕ). l ++ t.extra) (t.nothing o).0 ∙ no_extra e (t.nothing o).1 t.ends;
       },
-      inr (subst (λ (l : List ℕ). LostAtEnd p (reading l).items k w w2) (sym (front_judged t.read t.extra t.size both.0)) (both.1 (cl.part is8))),
+      inr (subst (λ (l : List ℕ). LostAtEnd p (reading l).items k w.written w2.written) (sym (front_judged t.read t.extra t.size both.0)) (both.1 (cl.part is8))),
     )
   where
     last : declared.Ended → List ℕ
     last x = last_text j.items j.verdicts (last_cause x j.reader)
 
-    by : (x : declared.Ended) → EndsAs p x t.read t.extra rest j k w w1 r r1 →
-        ((t.extra ≡ []) ⊎ (length t.read ≡ limit)) × (Partly w1 w2 (last x) → LostAtEnd p (reading t.read).items k w w2)
+    by : (x : declared.Ended) → EndsAs p x t.read t.extra at.rest j k w w1 →
+        ((t.extra ≡ []) ⊎ (length t.read ≡ limit)) × (Partly w1.written w2.written (last x) → LostAtEnd p (reading t.read).items k w.written w2.written)
     by ended.Whole h = (inl h.0, so_far_lost t.read (last ended.Whole) h.2)
     by ended.Fault h = (inl h.0, so_far_lost t.read (last ended.Fault) h.1)
     by ended.TooLong h = (inr h.0, so_far_lost t.read (last ended.TooLong) h.2)
     by (ended.Refused s) h = (inl h.0, refused_lost t.read (last (ended.Refused s)) s h.1)
 
-    no_extra : (x : declared.Ended) → is_fault x ≡ true → EndsAs p x t.read t.extra rest j k w w1 r r1 → t.extra ≡ []
+    no_extra : (x : declared.Ended) → is_fault x ≡ true → EndsAs p x t.read t.extra at.rest j k w w1 → t.extra ≡ []
     no_extra ended.Whole faulty h = h.0
     no_extra ended.Fault faulty h = h.0
     no_extra ended.TooLong faulty h = absurd (false_is_true faulty)
     no_extra (ended.Refused s) faulty h = h.0
 
 -- or within those of an item
-pub top_lost_item : {p : Profile} {k : engine.EngineKept} {w w1 : Option (List ℕ)} {r : Option ℕ} {told opened : Bool} {file rest : Option (List ℕ)} →
-    TakenCut p k w w1 r told file rest → opened ≡ true → told ≡ true → (b : List ℕ) → file ≡ Some b →
-    (read : List ℕ) × ReadOf b opened rest read × (LostAtItem p (reading (take limit read)).items k w w1 ⊎ LostAtEnd p (reading (take limit read)).items k w w1)
-top_lost_item {p} {k} {w} {w1} {file = file} {rest} t is_open told_is b file_is =
+pub top_lost_item : {p : Profile} {k : engine.EngineKept} {w w1 : Tells} {at : Asked} →
+    TakenCut p k w w1 at → at.opened ≡ true → at.told ≡ true → (b : List ℕ) → at.file ≡ Some b →
+    (read : List ℕ) × ReadOf b at.opened at.rest read × (LostAtItem p (reading (take limit read)).items k w.written w1.written ⊎ LostAtEnd p (reading (take limit read)).items k w.written w1.written)
+top_lost_item {p} {k} {w} {w1} {at = at} t is_open told_is b file_is =
     let front : t.read ++ [] ≡ take limit t.read = append-nil t.read ∙ sym (take_all limit t.read t.size) in (
       t.read,
-      record { from_file = λ o. sym file_is ∙ front_ahead t.read file rest (t.from_file told_is); nothing = λ closed. absurd (false_is_true (sym closed ∙ is_open)) },
-      inl (subst (λ (l : List ℕ). LostAtItem p (reading l).items k w w1) front (t.cut.at_item [])),
+      record { from_file = λ o. sym file_is ∙ front_ahead t.read at.file at.rest (t.from_file told_is); nothing = λ closed. absurd (false_is_true (sym closed ∙ is_open)) },
+      inl (subst (λ (l : List ℕ). LostAtItem p (reading l).items k w.written w1.written) front (t.cut.at_item [])),
     )
 
 plus-nothing : (w : Option (List ℕ)) → w ≡ plus w []
@@ -196,8 +183,8 @@ plus-nothing None = refl
 plus-nothing (Some bytes) = ap Some (sym (append-nil bytes))
 
 -- before anything is read
-pub so_far_nothing : {k : engine.EngineKept} {w : Option (List ℕ)} {r : Option ℕ} (j : Judging) → j ≡ nothing_judged → engine.StandsFor k [] → SoFar k.profile [] j k w w r r
-so_far_nothing {k} {w} {r} j start stands = subst (λ (x : Judging). SoFar k.profile [] x k w w r r) (sym start) nothing
+pub so_far_nothing : {k : engine.EngineKept} {w : Tells} (j : Judging) → j ≡ nothing_judged → engine.StandsFor k [] → SoFar k.profile [] j k w w
+so_far_nothing {k} {w} j start stands = subst (λ (x : Judging). SoFar k.profile [] x k w w) (sym start) nothing
   where
     none : (reading []).items ≡ []
     none = ap (λ (x : Reading). x.items) (reading_short [] (omega arith))
@@ -205,7 +192,7 @@ so_far_nothing {k} {w} {r} j start stands = subst (λ (x : Judging). SoFar k.pro
     open_is : (reading []).ending ≡ Open 0 []
     open_is = ap (λ (x : Reading). x.ending) (reading_short [] (omega arith))
 
-    nothing : SoFar k.profile [] nothing_judged k w w r r
+    nothing : SoFar k.profile [] nothing_judged k w w
     nothing = record {
       profile_is = refl;
       reader_stands = open_is;
@@ -214,6 +201,6 @@ so_far_nothing {k} {w} {r} j start stands = subst (λ (x : Judging). SoFar k.pro
       accepted = ap (refusal k.profile []) none;
       items = sym (ap (λ (xs : List Entry). length xs) none);
       verdicts = sym (ap (λ (xs : List Entry). length (verdicts_after k.profile [] xs)) none);
-      written = plus-nothing w ∙ sym (ap (λ (xs : List Entry). plus w (lines (verdicts_after k.profile [] xs))) none);
-      room_left = λ n room. subst (λ (xs : List Entry). HasRoom r (length (lines (verdicts_after k.profile [] xs)) + n) → HasRoom r n) (sym none) (λ h. subst (HasRoom r) (zero-add n) h) room;
+      written = plus-nothing w.written ∙ sym (ap (λ (xs : List Entry). plus w.written (lines (verdicts_after k.profile [] xs))) none);
+      room_left = λ n room. subst (λ (xs : List Entry). HasRoom w.room (length (lines (verdicts_after k.profile [] xs)) + n) → HasRoom w.room n) (sym none) (λ h. subst (HasRoom w.room) (zero-add n) h) room;
     }

@@ -1,17 +1,23 @@
 -- What the program writes about the bytes of a capture, and the status that it answers.
-use Rattle.std.specs.Prelude.{ℕ, ◌^◌, ◌==◌, nat_lt, List, [], ◌++◌, length, take, Option, Some, None, if◌then◌else◌}
+use Rattle.std.specs.Prelude.{ℕ, ◌^◌, ◌==◌, nat_lt, List, [], ◌++◌, length, take, Option, Some}
+use Rattle.std.specs.Prelude.{None, if◌then◌else◌}
 use Rattle.std.specs.List.{flat_map}
 use Rattle.pl_base.specs.declared.stop.Malformed.TheVariants.{Truncated}
 use Rattle.pl_base.specs.declared.stop.Stop.{Stop}
-use Rattle.pl_base.specs.declared.stop.Stop.TheVariants.{Malformed, Unsupported, Outstanding, Unacknowledged, Memory}
+use Rattle.pl_base.specs.declared.stop.Stop.TheVariants.{Malformed, Unsupported, Outstanding}
+use Rattle.pl_base.specs.declared.stop.Stop.TheVariants.{Unacknowledged, Memory}
 use Rattle.pl_base.specs.declared.verdict.Verdict.{Verdict}
 use Rattle.pl_capture.specs.Entry.{Entry}
 use Rattle.pl_capture.specs.Reading.{Reading, reading, Ending, Ended, Bad, Open}
 use Rattle.pl_profile.specs.declared.profile.Profile.{Profile}
 use Rattle.pl_engine.specs.Verdicts.{accepted, refusal, verdicts_after}
-use Rattle.pl_report.specs.Lines.{verdict_text, closing_text, stop_text, length_text, read_fault_text}
+use Rattle.pl_cli.specs.declared.status.TheConstants.{BROKEN, CLEAN, LIMIT, MALFORMED, NO_MEMORY}
+use Rattle.pl_cli.specs.declared.status.TheConstants.{READ_FAULT, UNSUPPORTED}
+use Rattle.pl_report.specs.Lines.{verdict_text, closing_text, stop_text, length_text}
+use Rattle.pl_report.specs.Lines.{read_fault_text}
 
--- How bytes that were read go on: the file ends there, it is longer than what is judged, or a read failed.
+-- How bytes that were read go on: the file ends there, it is longer than what is judged, or a read
+-- failed.
 pub data How : Type 0 where
   Whole : How
   TooLong : How
@@ -43,7 +49,8 @@ abbrev pub cause_of : Option Stop → Ending → How → Cause
 cause_of None ending how = cause_of_ending ending how
 cause_of (Some s) ending how = AtRefusal s
 
--- What is judged of a reading: the items up to the first that the engine refuses, their verdicts, and the cause.
+-- What is judged of a reading: the items up to the first that the engine refuses, their verdicts,
+-- and the cause.
 abbrev pub items_judged : Profile → Reading → List Entry
 items_judged profile r = accepted profile [] r.items
 
@@ -64,23 +71,24 @@ last_text items verdicts AtLimit = length_text
 last_text items verdicts AtFault = read_fault_text
 
 abbrev pub stop_status : Stop → ℕ
-stop_status (Malformed fault item) = 4
-stop_status (Unsupported form item) = 6
-stop_status (Outstanding limit item) = 5
-stop_status (Unacknowledged limit item) = 5
-stop_status Memory = 9
+stop_status (Malformed fault item) = MALFORMED
+stop_status (Unsupported form item) = UNSUPPORTED
+stop_status (Outstanding limit item) = LIMIT
+stop_status (Unacknowledged limit item) = LIMIT
+stop_status Memory = NO_MEMORY
 
 abbrev pub cause_status : ℕ → Cause → ℕ
-cause_status verdicts AtEnd = if verdicts == 0 then 0 else 1
+cause_status verdicts AtEnd = if verdicts == 0 then CLEAN else BROKEN
 cause_status verdicts (AtRefusal s) = stop_status s
-cause_status verdicts AtLimit = 5
-cause_status verdicts AtFault = 7
+cause_status verdicts AtLimit = LIMIT
+cause_status verdicts AtFault = READ_FAULT
 
 -- what is written for a reading that goes on so, and what is answered
 unfoldable pub text : Profile → Reading → How → List ℕ
 text profile r how =
     lines (verdicts_of profile r)
-    ++ last_text (length (items_judged profile r)) (length (verdicts_of profile r)) (cause profile r how)
+    ++ last_text (length (items_judged profile r)) (length (verdicts_of profile r))
+    (cause profile r how)
 
 unfoldable pub status : Profile → Reading → How → ℕ
 status profile r how = cause_status (length (verdicts_of profile r)) (cause profile r how)

@@ -1,5 +1,6 @@
 -- What `run` says in words of the profile and of the capture, where the shelf tells its files.
-use Rattle.std.specs.Prelude.{◌≡◌, ◌≢◌, ℕ, ◌<◌, ◌≤◌, ◌⊎◌, Bool, true, List, [], length, Option, Some, None, IsSome, Result, Ok, Err, if◌then◌else◌}
+use Rattle.std.specs.Prelude.{◌≡◌, ◌≢◌, ℕ, ◌<◌, ◌≤◌, ◌⊎◌, true, List, [], length, Option, Some}
+use Rattle.std.specs.Prelude.{None, IsSome, Result, Ok, Err, if◌then◌else◌}
 use Rattle.pl_io.specs.declared.shelf.Shelf as shelf
 use Rattle.pl_io.specs.declared.sink.Sink as sink
 use Rattle.pl_io.specs.Faults.{last_count, raised}
@@ -10,28 +11,31 @@ use Rattle.pl_profile.specs.declared.error.ProfileError.{ProfileError}
 use Rattle.pl_profile.specs.declared.profile.Profile.{Profile}
 use Rattle.pl_engine.specs.Verdicts.{refusal, verdicts_after}
 use Rattle.pl_report.specs.Lines.{profile_error_text, read_fault_text}
-use Rattle.pl_cli.specs.Output.{AtFault, Fault, cause, limit, output}
+use Rattle.pl_cli.specs.declared.status.TheConstants.{BROKEN, MALFORMED, NO_MEMORY, READ_FAULT}
+use Rattle.pl_cli.specs.declared.status.TheConstants.{UNSUPPORTED, WRITE_FAULT}
+use Rattle.pl_cli.specs.Output.{AtFault, Fault, cause, cut, limit, output}
 use Rattle.pl_cli.specs.Progress.{ReadOf}
-use Rattle.pl_cli.specs.Promise.{IsCheck, is_dash}
+use Rattle.pl_cli.specs.Promise.{IsCheck, ProfileUnread, is_dash}
 use Rattle.pl_cli.specs.Source.{profile_under}
 
--- The words are `check PROFILE CAPTURE`, and the shelf tells its files: the profile is this one, and the
--- capture has these bytes.
-pub record Checks (words : List (List ℕ)) (is_told : Bool) (files : List ℕ → Option (List ℕ)) (profile : Profile) (bytes : List ℕ) : Type 0 where
+-- The words are `check PROFILE CAPTURE`, and the shelf tells its files: the profile is this one,
+-- and the capture has these bytes.
+pub record Checks {H : Type 0} (S : shelf.Ghosts H) (words : List (List ℕ)) (old : H)
+    (profile : Profile) (bytes : List ℕ) : Type 0 where
   pub profile_name : List ℕ
   pub capture_name : List ℕ
   pub command : IsCheck words profile_name capture_name
-  pub told : is_told ≡ true
-  pub profile_is : profile_under files profile_name ≡ Some (Ok profile)
-  pub capture_is : files capture_name ≡ Some bytes
+  pub told : S.told old ≡ true
+  pub profile_is : profile_under (S.file old) profile_name ≡ Some (Ok profile)
+  pub capture_is : S.file old capture_name ≡ Some bytes
 
 -- neither a fault nor want of memory is answered
 abbrev pub NoFault : ℕ → Type 0
-NoFault answer = (answer ≢ 7) × (answer ≢ 8) × (answer ≢ 9)
+NoFault answer = (answer ≢ READ_FAULT) × (answer ≢ WRITE_FAULT) × (answer ≢ NO_MEMORY)
 
--- the status of a capture that was judged: 0, 1, 4, 5 or 6
+-- the status of a capture that was judged, to its end or to a refusal
 abbrev pub IsJudged : ℕ → Type 0
-IsJudged answer = (answer ≤ 1) ⊎ ((4 ≤ answer) × (answer ≤ 6))
+IsJudged answer = (answer ≤ BROKEN) ⊎ ((MALFORMED ≤ answer) × (answer ≤ UNSUPPORTED))
 
 -- exactly this text was appended, and this status answered
 abbrev pub Gives : List ℕ → ℕ → Option (List ℕ) → Option (List ℕ) → ℕ → Type 0
@@ -42,20 +46,49 @@ pub record GivesPart {O : Type 0} (S : sink.Ghosts O) (text : List ℕ) (old new
   pub part : Partly (S.written old) (S.written new) text
   pub no_room : HasRoom (S.room old) (length text) → ⊥
 
--- how often a shelf was asked for a file once the profile of this name was read: once more, unless a dash names it
+-- how often a shelf was asked for a file once the profile of this name was read: once more, unless
+-- a dash names it
 abbrev pub after_profile : List ℕ → ℕ → ℕ
 after_profile name opens = if is_dash name then opens else raised opens
 
--- The profile's file was asked for, once, and then the capture, once: that is the one that is open, if any is.
-pub record OpensBoth {H : Type 0} (S : shelf.Ghosts H) (profile capture : List ℕ) (old new : H) : Type 0 where
+-- The profile's file was asked for, once, and then the capture, once: that is what is open, if
+-- anything is.
+pub record OpensBoth {H : Type 0} (S : shelf.Ghosts H) (profile capture : List ℕ) (old new : H)
+    : Type 0 where
   pub once_each : S.opens new ≡ raised (after_profile profile (S.opens old))
   pub named : S.told old ≡ true → S.is_open new ≡ true → S.open_name new ≡ Some capture
 
 -- The capture couldn't be read to its end: these bytes of it were, in which nothing is refused.
-pub record CutAt {H : Type 0} (S : shelf.Ghosts H) (p : Profile) (profile capture bytes read : List ℕ) (old new : H) : Type 0 where
+pub record CutAt {H : Type 0} (S : shelf.Ghosts H) (p : Profile)
+    (profile capture bytes read : List ℕ) (old new : H) : Type 0 where
   pub opens : OpensBoth S profile capture old new
   pub read_of : ReadOf bytes (S.is_open new) (S.rest new) read
+  pub size : length read ≤ limit
   pub none_refused : cause p (reading read) Fault ≡ AtFault
+
+-- The text of what was read of the capture was appended; or a part of it.
+abbrev pub GivesCut : {H O : Type 0} → shelf.Ghosts H → sink.Ghosts O → Profile →
+    List ℕ → List ℕ → List ℕ → H → H → O → O → Type 0
+GivesCut S T p profile capture bytes old new out out' =
+    (read : List ℕ) × CutAt S p profile capture bytes read old new
+    × (T.written out' ≡ plus (T.written out) (cut p read))
+
+abbrev pub GivesPartOfCut : {H O : Type 0} → shelf.Ghosts H → sink.Ghosts O → Profile →
+    List ℕ → List ℕ → List ℕ → H → H → O → O → Type 0
+GivesPartOfCut S T p profile capture bytes old new out out' =
+    (read : List ℕ) × CutAt S p profile capture bytes read old new
+    × GivesPart T (cut p read) out out'
+
+-- The profile couldn't be read, and the line of that alone was appended; or a part of it.
+abbrev pub GivesFault : {H O : Type 0} → shelf.Ghosts H → sink.Ghosts O →
+    List ℕ → H → H → O → O → Type 0
+GivesFault S T profile old new out out' =
+    ProfileUnread S profile old new × (T.written out' ≡ plus (T.written out) read_fault_text)
+
+abbrev pub GivesPartOfFault : {H O : Type 0} → shelf.Ghosts H → sink.Ghosts O →
+    List ℕ → H → H → O → O → Type 0
+GivesPartOfFault S T profile old new out out' =
+    ProfileUnread S profile old new × GivesPart T read_fault_text out out'
 
 -- The whole file was judged, it ended with its end record, and no item breaks a rule or is refused.
 pub record RunsCleanly (profile : Profile) (file : List ℕ) : Type 0 where
@@ -68,7 +101,8 @@ pub record RunsCleanly (profile : Profile) (file : List ℕ) : Type 0 where
 abbrev pub IsUnrisen : ℕ → ℕ → Type 0
 IsUnrisen before now = (now ≡ before) × (now < last_count)
 
--- The files that a command needs are there: that of its profile, and the capture, unless the profile is refused.
+-- The files that a command needs are there: that of its profile, and, unless that is refused, the
+-- capture.
 abbrev pub AreThere : Option (Result Profile ProfileError) → Option (List ℕ) → Type 0
 AreThere None capture = ⊥
 AreThere (Some (Err e)) capture = Unit {0}

@@ -1,5 +1,7 @@
 //! Reads a capture in pieces, judges each item as soon as it is whole and writes its verdicts.
-ghost use Rattle.std.specs.Prelude.{◌≡◌, ◌≢◌, ◌+◌, ◌*◌, ◌<◌, ◌≤◌, ◌^◌, ◌++◌, List, [], ℕ, Bool, true, false, Some, None, length, take, Option, IfOk, OnOk, OnErr, IsOk, IsSome};
+ghost use Rattle.std.specs.Prelude.{◌≡◌, ◌≢◌, ◌+◌, ◌*◌, ◌<◌, ◌≤◌, ◌^◌, ◌++◌, List, [], ℕ, Bool};
+ghost use Rattle.std.specs.Prelude.{true, false, Some, None, length, take, Option, IfOk, OnOk};
+ghost use Rattle.std.specs.Prelude.{OnErr, IsOk, IsSome};
 ghost use Rattle.pl_io.specs.Faults.{HasCause};
 ghost use Rattle.pl_io.specs.Told.{plus, ahead, AtEnd, HasRoom, Partly};
 ghost use Rattle.pl_capture.specs.Entry.{Entry};
@@ -8,7 +10,8 @@ ghost use Rattle.pl_engine.specs.Engine.{StandsFor};
 ghost use Rattle.pl_engine.specs.Verdicts.{stop_of};
 ghost use Rattle.pl_profile.specs.declared.profile.Profile.{Profile};
 ghost use Rattle.pl_cli.specs.Output.{limit, lines};
-ghost use Rattle.pl_cli.specs.Progress.{ItemJudged, LooksBehind, PieceJudged, ReadJudged, ShelfCause, SoFar, is_fault};
+ghost use Rattle.pl_cli.specs.Progress.{ItemJudged, LooksBehind, PieceJudged, ReadJudged};
+ghost use Rattle.pl_cli.specs.Progress.{ShelfCause, SoFar, Tells, is_fault, tells};
 
 use crate::judging::{Ended, Judging};
 use pl_base::{Form, Found, Stop};
@@ -32,13 +35,16 @@ pub(crate) fn read_pieces<H: Shelf, O: Sink>(
     requires items { judging.old.items ≡ 0 }
     requires verdicts { judging.old.verdicts ≡ 0 }
     requires engine { engine.old.items ≡ 0 }
-    ensures judged { (p : Profile) → SoFar p [] judging.old engine.old (O.written out.old) (O.written out.old) (O.room out.old) (O.room out.old) →
-        ReadJudged p result judging.new engine.new (O.written out.old) (O.written out.new) (O.room out.old) (O.room out.new) (H.rest shelf.old) (H.rest shelf.new) }
+    ensures judged { (p : Profile) →
+        SoFar p [] judging.old engine.old (tells O.Sink out.old) (tells O.Sink out.old) →
+        ReadJudged p result judging.new engine.new (tells O.Sink out.old) (tells O.Sink out.new)
+        (H.rest shelf.old) (H.rest shelf.new) }
     ensures opened { H.is_open shelf.new ≡ true }
     ensures opens { H.opens shelf.new ≡ H.opens shelf.old }
     ensures name_kept { H.open_name shelf.new ≡ H.open_name shelf.old }
     ensures never_fails { H.sure shelf.old ≡ true → IfOk result (λ ended. is_fault ended ≡ false) }
-    ensures shelf_cause { IfOk result (λ ended. ShelfCause ended (H.faults shelf.old) (H.faults shelf.new)) }
+    ensures shelf_cause { IfOk result (λ ended.
+        ShelfCause ended (H.faults shelf.old) (H.faults shelf.new)) }
     ensures shelf_kept { OnErr result (H.faults shelf.new ≡ H.faults shelf.old) }
     ensures cause { HasCause (O.faults out.old) (O.faults out.new) result }
 {
@@ -74,7 +80,8 @@ pub(crate) fn read_front<H: Shelf>(
     requires inside { most ≤ length buffer.old }
     ensures opened { H.is_open shelf.new ≡ true }
     ensures most { IfOk result (λ n. n ≤ most) }
-    ensures bytes { IfOk result (λ n. H.rest shelf.old ≡ ahead (take n buffer.new) (H.rest shelf.new)) }
+    ensures bytes { IfOk result (λ n.
+        H.rest shelf.old ≡ ahead (take n buffer.new) (H.rest shelf.new)) }
     ensures end { IfOk result (λ n. n ≡ 0 → AtEnd (H.rest shelf.old)) }
     ensures err { OnErr result (H.rest shelf.new ≡ H.rest shelf.old) }
     ensures opens { H.opens shelf.new ≡ H.opens shelf.old }
@@ -93,7 +100,8 @@ fn look_behind<H: Shelf>(shelf: &mut H, buffer: &mut [u8]) -> Ended
     requires opened { H.is_open shelf.old ≡ true }
     requires some { 0 < length buffer.old }
     ensures opened { H.is_open shelf.new ≡ true }
-    ensures bytes { (extra : List ℕ) × (H.rest shelf.old ≡ ahead extra (H.rest shelf.new)) × LooksBehind result extra (H.rest shelf.new) }
+    ensures bytes { (extra : List ℕ) × (H.rest shelf.old ≡ ahead extra (H.rest shelf.new))
+        × LooksBehind result extra (H.rest shelf.new) }
     ensures opens { H.opens shelf.new ≡ H.opens shelf.old }
     ensures name_kept { H.open_name shelf.new ≡ H.open_name shelf.old }
     ensures never_fails { H.sure shelf.old ≡ true → is_fault result ≡ false }
@@ -117,10 +125,12 @@ fn judge_piece<O: Sink>(
     requires items { judging.old.items + length piece.now < 2 ^ 58 }
     requires verdicts { judging.old.verdicts ≤ judging.old.items * 32 }
     requires engine { engine.old.items + length piece.now < 2 ^ 58 }
-    ensures judged { (p : Profile) (before : List ℕ) (w : Option (List ℕ)) (r : Option ℕ) →
-        SoFar p before judging.old engine.old w (O.written out.old) r (O.room out.old) →
-        PieceJudged p (before ++ piece.now) result judging.new engine.new w (O.written out.new) r (O.room out.new) }
-    ensures place { OnOk result (judging.new.reader.place ≤ judging.old.reader.place + length piece.now) }
+    ensures judged { (p : Profile) (before : List ℕ) (start : Tells) →
+        SoFar p before judging.old engine.old start (tells O.Sink out.old) →
+        PieceJudged p (before ++ piece.now) result judging.new engine.new
+        start (tells O.Sink out.new) }
+    ensures place { OnOk result
+        (judging.new.reader.place ≤ judging.old.reader.place + length piece.now) }
     ensures items { OnOk result (judging.new.items ≤ judging.old.items + length piece.now) }
     ensures verdicts { OnOk result (judging.new.verdicts ≤ judging.new.items * 32) }
     ensures engine { OnOk result (engine.new.items ≤ engine.old.items + length piece.now) }
@@ -146,8 +156,8 @@ fn judge_piece<O: Sink>(
     Ok(None)
 }
 
-/// Judges the item that the reader lends, and writes its verdicts. Some where the engine refuses it. The list `found`
-/// is empty before, and again behind the lines.
+/// Judges the item that the reader lends, and writes its verdicts. Some where the engine refuses
+/// it. The list `found` is empty before, and again behind the lines.
 fn judge_item<O: Sink>(
     judging: &mut Judging,
     engine: &mut Engine,
@@ -159,8 +169,10 @@ fn judge_item<O: Sink>(
     requires verdicts { judging.old.verdicts ≤ judging.old.items * 32 }
     requires engine { engine.old.items < 2 ^ 58 }
     requires none { found.old.items ≡ [] }
-    ensures judged { (past : List Entry) (x : Entry) → judging.old.reader.phase ≡ Holding x → StandsFor engine.old past → judging.old.items ≡ length past →
-        ItemJudged past x result judging.old judging.new engine.old engine.new (O.written out.old) (O.written out.new) (O.room out.old) (O.room out.new) }
+    ensures judged { (past : List Entry) (x : Entry) → judging.old.reader.phase ≡ Holding x →
+        StandsFor engine.old past → judging.old.items ≡ length past →
+        ItemJudged past x result judging.old judging.new engine.old engine.new
+        (tells O.Sink out.old) (tells O.Sink out.new) }
     ensures reader { judging.new.reader ≡ judging.old.reader }
     ensures items { judging.new.items ≤ judging.old.items + 1 }
     ensures verdicts { judging.new.verdicts ≤ judging.new.items * 32 }
@@ -200,10 +212,14 @@ fn stop_at(refused: Refused, number: u64) -> Stop
 
 /// Writes the lines of an item's verdicts.
 fn write_verdicts<O: Sink>(found: &Found, out: &mut O) -> Result<(), Failed>
-    ensures appended { OnOk result (O.written out.new ≡ plus (O.written out.old) (lines found.now.items)) }
-    ensures part { OnErr result (Partly (O.written out.old) (O.written out.new) (lines found.now.items)) }
+    ensures appended { OnOk result
+        (O.written out.new ≡ plus (O.written out.old) (lines found.now.items)) }
+    ensures part { OnErr result
+        (Partly (O.written out.old) (O.written out.new) (lines found.now.items)) }
     ensures fits { HasRoom (O.room out.old) (length (lines found.now.items)) → IsOk result }
-    ensures room_left { OnOk result ((k : ℕ) → HasRoom (O.room out.old) (length (lines found.now.items) + k) → HasRoom (O.room out.new) k) }
+    ensures room_left { OnOk result ((k : ℕ) →
+        HasRoom (O.room out.old) (length (lines found.now.items) + k) →
+        HasRoom (O.room out.new) k) }
     ensures cause { HasCause (O.faults out.old) (O.faults out.new) result }
 {
     for verdict in found.as_slice() {

@@ -31,7 +31,10 @@ impl Judging {
         requires few { self.old.items < 2 ^ 58 }
         requires verdicts { verdicts ≤ 32 }
         requires at_most_32_each { self.old.verdicts ≤ self.old.items * 32 }
-        ensures { self.new ≡ record self.old { items = self.old.items + 1; verdicts = self.old.verdicts + verdicts } }
+        ensures { self.new ≡ record self.old {
+            items = self.old.items + 1;
+            verdicts = self.old.verdicts + verdicts
+        } }
     {
         self.verdicts += verdicts as u64;
         self.items += 1;

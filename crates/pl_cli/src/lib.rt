@@ -7,7 +7,7 @@ mod closing;
 mod command_line;
 mod judging;
 mod profile;
-mod status;
+pub mod status;
 mod with_engine;
 
 pub use checking::check;

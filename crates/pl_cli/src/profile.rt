@@ -3,7 +3,8 @@ ghost use Rattle.std.specs.Prelude.{◌≡◌, ◌⊎◌, List, ℕ, Some, true,
 ghost use Rattle.pl_io.specs.Told.{ahead};
 ghost use Rattle.pl_profile.specs.ProfileOf.{profile_of};
 ghost use Rattle.pl_cli.specs.Promise.{IsBegun};
-ghost use Rattle.pl_cli.specs.Source.{IfReadable, IfUnreadable, IsNamed, IsOfText, IsReadable, IsText, ProfileCame, ProfileCause};
+ghost use Rattle.pl_cli.specs.Source.{IfReadable, IfUnreadable, IsNamed, IsOfText, IsReadable};
+ghost use Rattle.pl_cli.specs.Source.{IsText, ProfileCame, ProfileCause};
 
 use crate::capture::read_front;
 use pl_io::Shelf;
@@ -22,7 +23,8 @@ pub(crate) enum NoProfile {
     Refused(ProfileError),
 }
 
-/// The profile that a word of the command line names: `-` names the usual one, any other word a file.
+/// The profile that a word of the command line names: `-` names the usual one, any other word a
+/// file.
 pub(crate) fn profile_named<H: Shelf>(
     alloc: Global,
     name: &str,
@@ -50,8 +52,10 @@ fn profile_in<H: Shelf>(alloc: Global, shelf: &mut H) -> Result<Profile, NoProfi
     ensures opened { H.is_open shelf.new ≡ true }
     ensures opens { H.opens shelf.new ≡ H.opens shelf.old }
     ensures name_kept { H.open_name shelf.new ≡ H.open_name shelf.old }
-    ensures unread { IfUnreadable result ((read : List ℕ) × (H.rest shelf.old ≡ ahead read (H.rest shelf.new))) }
-    ensures begun { IsSome (H.rest shelf.old) → IfReadable result (IsBegun (H.rest shelf.old) (H.rest shelf.new)) }
+    ensures unread { IfUnreadable result ((read : List ℕ)
+        × (H.rest shelf.old ≡ ahead read (H.rest shelf.new))) }
+    ensures begun { IsSome (H.rest shelf.old) →
+        IfReadable result (IsBegun (H.rest shelf.old) (H.rest shelf.new)) }
     ensures cause { ProfileCause result (H.faults shelf.old) (H.faults shelf.new) }
 {
     match read_text(alloc, shelf) {
@@ -75,7 +79,8 @@ fn profile_from(alloc: Global, text: &[u8]) -> Result<Profile, NoProfile>
 fn read_text<H: Shelf>(alloc: Global, shelf: &mut H) -> Result<Vec<u8>, NoProfile>
     requires opened { H.is_open shelf.old ≡ true }
     ensures text { IfOk result (λ text. IsText text.items (H.rest shelf.old) (H.rest shelf.new)) }
-    ensures memory { IfErr result (λ none. (none ≡ NoProfile.Unreadable) ⊎ (none ≡ NoProfile.Refused ProfileError.Memory)) }
+    ensures memory { IfErr result (λ none.
+        (none ≡ NoProfile.Unreadable) ⊎ (none ≡ NoProfile.Refused ProfileError.Memory)) }
     ensures still_told { H.told shelf.new ≡ H.told shelf.old }
     ensures files { (other : List ℕ) → H.file shelf.new other ≡ H.file shelf.old other }
     ensures never_fails { H.sure shelf.old ≡ true → IsReadable result }
@@ -83,8 +88,10 @@ fn read_text<H: Shelf>(alloc: Global, shelf: &mut H) -> Result<Vec<u8>, NoProfil
     ensures opened { H.is_open shelf.new ≡ true }
     ensures opens { H.opens shelf.new ≡ H.opens shelf.old }
     ensures name_kept { H.open_name shelf.new ≡ H.open_name shelf.old }
-    ensures unread { IfUnreadable result ((read : List ℕ) × (H.rest shelf.old ≡ ahead read (H.rest shelf.new))) }
-    ensures begun { IsSome (H.rest shelf.old) → IfReadable result (IsBegun (H.rest shelf.old) (H.rest shelf.new)) }
+    ensures unread { IfUnreadable result ((read : List ℕ)
+        × (H.rest shelf.old ≡ ahead read (H.rest shelf.new))) }
+    ensures begun { IsSome (H.rest shelf.old) →
+        IfReadable result (IsBegun (H.rest shelf.old) (H.rest shelf.new)) }
     ensures cause { ProfileCause result (H.faults shelf.old) (H.faults shelf.new) }
 {
     let mut text = Vec::new(alloc);

@@ -1,22 +1,22 @@
-//! The exit statuses of the program.
+//! The exit statuses of the program, by which the contracts name them too.
 
 /// The capture was read to its end and no rule is broken.
-pub(crate) const CLEAN: u8 = 0;
+pub const CLEAN: u8 = 0;
 /// The capture was read to its end and a rule is broken.
-pub(crate) const BROKEN: u8 = 1;
+pub const BROKEN: u8 = 1;
 /// The command line is faulty.
-pub(crate) const USAGE: u8 = 2;
+pub const USAGE: u8 = 2;
 /// The text of the profile is refused.
-pub(crate) const PROFILE: u8 = 3;
+pub const PROFILE: u8 = 3;
 /// A record or the header of the capture is malformed, or its end is missing.
-pub(crate) const MALFORMED: u8 = 4;
+pub const MALFORMED: u8 = 4;
 /// The capture passes a limit.
-pub(crate) const LIMIT: u8 = 5;
+pub const LIMIT: u8 = 5;
 /// The capture is of a form that isn't judged.
-pub(crate) const UNSUPPORTED: u8 = 6;
+pub const UNSUPPORTED: u8 = 6;
 /// A file couldn't be opened or read.
-pub(crate) const READ_FAULT: u8 = 7;
+pub const READ_FAULT: u8 = 7;
 /// The output couldn't be written.
-pub(crate) const WRITE_FAULT: u8 = 8;
+pub const WRITE_FAULT: u8 = 8;
 /// Memory was wanting.
-pub(crate) const NO_MEMORY: u8 = 9;
+pub const NO_MEMORY: u8 = 9;

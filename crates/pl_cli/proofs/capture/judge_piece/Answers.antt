@@ -6,7 +6,7 @@ use Rattle.pl_cli.proofs.capture.judge_piece.Goals as goal
 pub loop-place-init : goal.loop-place-init
 loop-place-init g c = record {
   bound = search rules;
-  so_far = λ p before w r f. so_far_start before c.args.piece.now f;
+  so_far = λ p before w f. so_far_start before c.args.piece.now f;
   none = search rules;
   reader = search rules;
   items = search rules;
@@ -16,8 +16,8 @@ loop-place-init g c = record {
 }
 
 pub returns-in-More-clause-judged : goal.returns-in-More-clause-judged
-returns-in-More-clause-judged g c = λ p before w r f.
-    let so_far = c.loop-place.invariant.so_far p before w r f in
+returns-in-More-clause-judged g c = λ p before w f.
+    let so_far = c.loop-place.invariant.so_far p before w f in
     piece_more (before ++ take c.loop-place.place c.args.piece.now) _ _ c.feed.new.self
     (all_on before c.args.piece.now _ c.loop-place.place (take_rest c.args.piece.now c.loop-place.place)) so_far
     (c.in-More.ensures.answers _ so_far.reader_stands) c.in-More.ensures.becomes
@@ -25,8 +25,8 @@ returns-in-More-clause-judged g c = λ p before w r f.
 pub loop-place-preserved-in-End : goal.loop-place-preserved-in-End
 loop-place-preserved-in-End g c = record {
   bound = omega (arith, c.in-End.ensures.uses, rw take_rest at c.in-End.ensures.uses, length-drop c.loop-place.place c.args.piece.now);
-  so_far = λ p before w r f.
-      let so_far = c.loop-place.invariant.so_far p before w r f in
+  so_far = λ p before w f.
+      let so_far = c.loop-place.invariant.so_far p before w f in
       piece_end (before ++ take c.loop-place.place c.args.piece.now) _ _ c.feed.new.self
       (part_on before c.args.piece.now _ c.loop-place.place c.in-End.used (take_rest c.args.piece.now c.loop-place.place)) so_far
       (c.in-End.ensures.answers _ so_far.reader_stands) c.in-End.ensures.becomes;
@@ -39,8 +39,8 @@ loop-place-preserved-in-End g c = record {
 }
 
 pub returns-in-Bad-clause-judged : goal.returns-in-Bad-clause-judged
-returns-in-Bad-clause-judged g c = λ p before w r f.
-    let so_far = c.loop-place.invariant.so_far p before w r f in
+returns-in-Bad-clause-judged g c = λ p before w f.
+    let so_far = c.loop-place.invariant.so_far p before w f in
     piece_bad (before ++ take c.loop-place.place c.args.piece.now) _ _ c.feed.new.self c.in-Bad.stop
     (all_on before c.args.piece.now _ c.loop-place.place (take_rest c.args.piece.now c.loop-place.place)) so_far
     (c.in-Bad.ensures.answers _ so_far.reader_stands) c.in-Bad.ensures.becomes
@@ -48,8 +48,8 @@ returns-in-Bad-clause-judged g c = λ p before w r f.
 pub loop-place-preserved : goal.loop-place-preserved
 loop-place-preserved g c = record {
   bound = omega (arith, c.in-Item.ensures.uses, rw take_rest at c.in-Item.ensures.uses, length-drop c.loop-place.place c.args.piece.now);
-  so_far = λ p before w r f.
-      let so_far = c.loop-place.invariant.so_far p before w r f in
+  so_far = λ p before w f.
+      let so_far = c.loop-place.invariant.so_far p before w f in
       piece_item (before ++ take c.loop-place.place c.args.piece.now) _ _ c.feed.new.self
       (part_on before c.args.piece.now _ c.loop-place.place c.in-Item.used (take_rest c.args.piece.now c.loop-place.place)) so_far
       (c.in-Item.ensures.answers _ so_far.reader_stands) c.judge_item.ensures.reader
@@ -63,8 +63,8 @@ loop-place-preserved g c = record {
 }
 
 pub returns-in-Ok-Some-clause-judged : goal.returns-in-Ok-Some-clause-judged
-returns-in-Ok-Some-clause-judged g c = λ p before w r f.
-    let so_far = c.loop-place.invariant.so_far p before w r f in
+returns-in-Ok-Some-clause-judged g c = λ p before w f.
+    let so_far = c.loop-place.invariant.so_far p before w f in
     let rest = take_rest c.args.piece.now c.loop-place.place in
     piece_blocked (before ++ take c.loop-place.place c.args.piece.now) _ (drop (c.loop-place.place + c.in-Item.used) c.args.piece.now) _ c.feed.new.self c.in-Ok-Some.stop
     (ap (λ l. l ++ drop (c.loop-place.place + c.in-Item.used) c.args.piece.now) (part_on before c.args.piece.now _ c.loop-place.place c.in-Item.used rest)
@@ -73,8 +73,8 @@ returns-in-Ok-Some-clause-judged g c = λ p before w r f.
     (λ past x h s i. rw c.in-Ok-Some.field-0-is at (c.in-Ok-Some.ensures.judged past x h s i))
 
 pub returns-in-Err-clause-judged : goal.returns-in-Err-clause-judged
-returns-in-Err-clause-judged g c = λ p before w r f.
-    let so_far = c.loop-place.invariant.so_far p before w r f in
+returns-in-Err-clause-judged g c = λ p before w f.
+    let so_far = c.loop-place.invariant.so_far p before w f in
     let rest = take_rest c.args.piece.now c.loop-place.place in
     piece_lost (before ++ take c.loop-place.place c.args.piece.now) _ (drop (c.loop-place.place + c.in-Item.used) c.args.piece.now) _ c.feed.new.self
     (ap (λ l. l ++ drop (c.loop-place.place + c.in-Item.used) c.args.piece.now) (part_on before c.args.piece.now _ c.loop-place.place c.in-Item.used rest)
@@ -82,5 +82,5 @@ returns-in-Err-clause-judged g c = λ p before w r f.
     (c.in-Item.ensures.answers _ so_far.reader_stands) c.in-Err.ensures.judged
 
 pub returns-clause-judged : goal.returns-clause-judged
-returns-clause-judged g c = λ p before w r f.
-    piece_done before c.args.piece.now c.loop-place.place c.loop-place-test.false (c.loop-place.invariant.so_far p before w r f)
+returns-clause-judged g c = λ p before w f.
+    piece_done before c.args.piece.now c.loop-place.place c.loop-place-test.false (c.loop-place.invariant.so_far p before w f)

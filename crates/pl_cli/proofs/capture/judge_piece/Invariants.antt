@@ -1,14 +1,14 @@
-use Rattle.std.proofs.Common.{◌≡◌, ◌≤◌, ◌+◌, ◌*◌, ◌-◌, ◌++◌, ℕ, List, [], length, take, Option}
+use Rattle.std.proofs.Common.{◌≡◌, ◌≤◌, ◌+◌, ◌*◌, ◌-◌, ◌++◌, ℕ, List, [], length, take}
 use Rattle.pl_profile.specs.declared.profile.Profile.{Profile}
-use Rattle.pl_cli.specs.Progress.{SoFar}
+use Rattle.pl_cli.specs.Progress.{SoFar, Tells, tells}
 use Rattle.pl_cli.proofs.capture.judge_piece.Given as goal
 
 abbrev pub invariant-loop-place : goal.invariant-loop-place
 invariant-loop-place g l = record {
   bound : l.place ≤ length l.piece;
-  so_far : (p : Profile) (before : List ℕ) (w : Option (List ℕ)) (r : Option ℕ) →
-      SoFar p before l.initial.judging l.initial.engine w (g.O.Sink.written l.initial.out) r (g.O.Sink.room l.initial.out) →
-      SoFar p (before ++ take l.place l.piece) l.judging l.engine w (g.O.Sink.written l.out) r (g.O.Sink.room l.out);
+  so_far : (p : Profile) (before : List ℕ) (start : Tells) →
+      SoFar p before l.initial.judging l.initial.engine start (tells g.O.Sink l.initial.out) →
+      SoFar p (before ++ take l.place l.piece) l.judging l.engine start (tells g.O.Sink l.out);
   none : l.found.items ≡ [];
   reader : l.judging.reader.place ≤ l.initial.judging.reader.place + l.place;
   items : l.judging.items ≤ l.initial.judging.items + l.place;

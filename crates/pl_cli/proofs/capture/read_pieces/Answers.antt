@@ -27,7 +27,7 @@ loop-taken-preserved g c = record {
   buffer = search rules;
   far = λ p f. far_on (take c.in-Ok.count c.read_front.new.buffer) c.in-Ok.count (c.loop-taken.invariant.far p f) c.in-Ok.ensures.bytes
       (omega (arith, c.in-Ok.ensures.most, length-take c.in-Ok.count c.read_front.new.buffer))
-      (λ so_far. rw c.in-Ok-None.field-0-is at (c.in-Ok-None.ensures.judged p _ _ _ so_far));
+      (λ so_far. rw c.in-Ok-None.field-0-is at (c.in-Ok-None.ensures.judged p _ _ so_far));
   place = omega (arith, c.in-Ok-None.ensures.place, c.in-Ok.ensures.most, length-take c.in-Ok.count c.read_front.new.buffer);
   items = omega (arith, c.in-Ok-None.ensures.items, c.in-Ok.ensures.most, length-take c.in-Ok.count c.read_front.new.buffer);
   engine = omega (arith, c.in-Ok-None.ensures.engine, c.in-Ok.ensures.most, length-take c.in-Ok.count c.read_front.new.buffer);
@@ -54,13 +54,13 @@ pub returns-in-Ok-Some-clause-judged : goal.returns-in-Ok-Some-clause-judged
 returns-in-Ok-Some-clause-judged g c = λ p f.
     far_refused (take c.in-Ok.count c.read_front.new.buffer) c.in-Ok-Some.stop (c.loop-taken.invariant.far p f) c.in-Ok.ensures.bytes
     (omega (arith, c.in-Ok.ensures.most, length-take c.in-Ok.count c.read_front.new.buffer))
-    (λ so_far. rw c.in-Ok-Some.field-0-is at (c.in-Ok-Some.ensures.judged p _ _ _ so_far))
+    (λ so_far. rw c.in-Ok-Some.field-0-is at (c.in-Ok-Some.ensures.judged p _ _ so_far))
 
 pub returns-in-Err-judge_piece-clause-judged : goal.returns-in-Err-judge_piece-clause-judged
 returns-in-Err-judge_piece-clause-judged g c = λ p f.
     far_cut (take c.in-Ok.count c.read_front.new.buffer) (c.loop-taken.invariant.far p f) c.in-Ok.ensures.bytes
     (omega (arith, c.in-Ok.ensures.most, length-take c.in-Ok.count c.read_front.new.buffer))
-    (λ so_far. c.in-Err-judge_piece.ensures.judged p _ _ _ so_far)
+    (λ so_far. c.in-Err-judge_piece.ensures.judged p _ _ so_far)
 
 pub returns-clause-judged : goal.returns-clause-judged
 returns-clause-judged g c = λ p f.

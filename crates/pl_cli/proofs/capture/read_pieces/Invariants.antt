@@ -1,6 +1,6 @@
 use Rattle.std.proofs.Common.{◌≡◌, ◌≤◌, ◌*◌, ◌-◌, ◌^◌, [], length, true}
 use Rattle.pl_profile.specs.declared.profile.Profile.{Profile}
-use Rattle.pl_cli.specs.Progress.{SoFar}
+use Rattle.pl_cli.specs.Progress.{SoFar, tells}
 use Rattle.pl_cli.proofs.Files.{Far}
 use Rattle.pl_cli.proofs.capture.read_pieces.Given as goal
 
@@ -9,9 +9,8 @@ invariant-loop-taken g l = record {
   bound : l.taken ≤ 2 ^ 40;
   buffer : length l.buffer ≡ 4096;
   far : (p : Profile) →
-      SoFar p [] l.initial.judging l.initial.engine (g.O.Sink.written l.initial.out) (g.O.Sink.written l.initial.out) (g.O.Sink.room l.initial.out) (g.O.Sink.room l.initial.out) →
-      Far p l.judging l.engine (g.O.Sink.written l.initial.out) (g.O.Sink.written l.out) (g.O.Sink.room l.initial.out) (g.O.Sink.room l.out)
-      (g.H.Shelf.rest l.initial.shelf) (g.H.Shelf.rest l.shelf) l.taken;
+      SoFar p [] l.initial.judging l.initial.engine (tells g.O.Sink l.initial.out) (tells g.O.Sink l.initial.out) →
+      Far p l.judging l.engine (tells g.O.Sink l.initial.out) (tells g.O.Sink l.out) (g.H.Shelf.rest l.initial.shelf) (g.H.Shelf.rest l.shelf) l.taken;
   place : l.judging.reader.place ≤ l.taken;
   items : l.judging.items ≤ l.taken;
   engine : l.engine.items ≤ l.taken;

@@ -1,7 +1,8 @@
 use Rattle.std.proofs.Common.{ap, not, refl}
 use Rattle.pl_cli.specs.Promise.{checks, no_command}
 use Rattle.pl_cli.proofs.Commands.{names_are}
-use Rattle.pl_cli.proofs.Headline.{both_opened_by, came, clean_by, complete_by, cut_short_by, exact_by, no_capture_by, no_memory_by, no_profile_by, none_opened_by, of_check, one_opened_by, part_by, read_fault_by, refused_by, refused_cut_by, refused_part_by, shelf_kept_by, shelf_sure_by, sink_kept_by, sink_room_by, status_by, unopened_by, usage_by, usage_only_by, usage_room_by, write_fault_by}
+use Rattle.pl_cli.proofs.Headline.{came, clean_by, complete_by, cut_short_by, exact_by, no_capture_by, no_profile_by, of_check, part_by, refused_by, refused_cut_by, refused_part_by, shelf_sure_by, sink_room_by}
+use Rattle.pl_cli.proofs.Statuses.{both_opened_by, no_memory_by, none_opened_by, one_opened_by, read_fault_by, shelf_kept_by, sink_kept_by, status_by, unopened_by, usage_by, usage_only_by, usage_room_by, write_fault_by}
 use Rattle.pl_cli.proofs.Judged.{answers_text}
 use Rattle.pl_cli.proofs.command_line.run.Goals as goal
 

@@ -4,7 +4,7 @@ use Rattle.pl_cli.proofs.with_engine.read_capture.Goals as goal
 
 pub returns-in-Ok-read_pieces-clause-judged : goal.returns-in-Ok-read_pieces-clause-judged
 returns-in-Ok-read_pieces-clause-judged g c =
-    taken_reads _ _ c.in-Ok.ensures.whole c.in-Ok-read_pieces.ensures.opened
+    taken_reads _ c.in-Ok.ensures.whole c.in-Ok-read_pieces.ensures.opened
     (c.in-Ok-read_pieces.ensures.judged c.args.engine.now.profile (so_far_nothing c.args.judging.now c.requires.judging c.requires.engine))
 
 pub returns-in-Err-read_pieces-clause-judged : goal.returns-in-Err-read_pieces-clause-judged
@@ -14,4 +14,4 @@ returns-in-Err-read_pieces-clause-judged g c =
 
 pub returns-in-Err-clause-judged : goal.returns-in-Err-clause-judged
 returns-in-Err-clause-judged g c =
-    taken_nothing _ _ (so_far_nothing c.args.judging.now c.requires.judging c.requires.engine) c.in-Err.ensures.closed
+    taken_nothing _ (so_far_nothing c.args.judging.now c.requires.judging c.requires.engine) c.in-Err.ensures.closed
