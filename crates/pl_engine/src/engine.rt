@@ -60,7 +60,7 @@ pub struct Engine {
 }
 
 impl Engine {
-    ghost use Rattle.pl_engine.specs.Engine.{RulesStandFor, StandsFor};
+    ghost use Rattle.pl_engine.specs.Engine.{NoneIsBlocked, RulesStandFor, StandsFor};
     ghost use Rattle.pl_engine.specs.Tally.{tally_of};
     ghost use Rattle.pl_engine.specs.Verdicts.{blocked, verdicts_at};
 
@@ -210,7 +210,7 @@ impl Engine {
         requires few { (0 < self.old.items) × (self.old.items ≤ 2 ^ 59) }
         requires verdicts { self.old.broken.verdicts + 31 ≤ 31 * self.old.items }
         ensures stands { (past : List Entry) (x : Entry) → RulesStandFor self.old (x ∷ past) → ArrivalsStandFor self.old.arrivals (x ∷ past) →
-            PeaksStandFor self.old.peaks past → BrokenStandsFor self.old.profile self.old.broken past →
+            PeaksStandFor self.old.peaks past → BrokenStandsFor self.old.profile self.old.broken past → NoneIsBlocked self.old.profile (x ∷ past) →
             found.now.items ≡ verdicts_at self.old.profile past x → StandsFor self.new (x ∷ past) }
         ensures profile { self.new.profile ≡ self.old.profile }
         ensures items { self.new.items ≡ self.old.items }
