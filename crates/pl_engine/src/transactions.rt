@@ -7,7 +7,7 @@ ghost use Rattle.pl_tlp.specs.Fit.{FitsIfWhole};
 ghost use Rattle.pl_pair.specs.History.{Event};
 ghost use Rattle.pl_pair.specs.Pairs.{StandsFor, room_of};
 ghost use Rattle.pl_pair.specs.Rules.{pair_verdicts};
-ghost use Rattle.pl_engine.specs.Engine.{IsTakable, IsTakableIfWhole};
+ghost use Rattle.pl_engine.specs.Parts.{IsTakable, IsTakableIfWhole};
 ghost use Rattle.pl_engine.specs.Events.{if_whole, transaction_of, with_event};
 ghost use Rattle.pl_engine.specs.Verdicts.{broken_by, refused_by};
 
