@@ -2,7 +2,7 @@
 use Rattle.std.specs.Prelude.{ℕ, Bool, true, false, List, [], ◌++◌, if◌then◌else◌}
 use Rattle.pl_tlp.specs.declared.kind.Layout.{Layout}
 use Rattle.pl_tlp.specs.declared.kind.Layout.TheVariants.{Addressed, Configuration, Message, Completion}
-use Rattle.pl_tlp.specs.Bits.{Place, bits, octets}
+use Rattle.pl_base.specs.Bits.{Place, bits, octets}
 
 -- The first DW, which is the same in every header. Of the Fmt, bit 5 is a header of 4 DW and bit 6 data behind it.
 abbrev pub wide_bits : List Place

@@ -1,5 +1,5 @@
-pub mod Bits
 pub mod Kinds
+pub mod Groups
 pub mod Header
 pub mod Fields
 pub mod Fit

@@ -2,8 +2,8 @@
 //! PCI Express Base Specification 5.0, chapter 2, transaction layer protocol: common packet header
 //! fields, request headers, message headers and completion headers.
 ghost use Rattle.std.specs.Prelude.{◌≡◌, ◌*◌, ◌<◌, ◌≤◌, ◌++◌, length};
-ghost use Rattle.pl_tlp.specs.Bits.{value};
-ghost use Rattle.pl_tlp.specs.Bits as spec_bits;
+ghost use Rattle.pl_base.specs.Bits.{value};
+ghost use Rattle.pl_base.specs.Bits as spec_bits;
 ghost use Rattle.pl_tlp.specs.Fields.{fields, first_dw, byte_count_of, status_in};
 ghost use Rattle.pl_tlp.specs.Fields as spec;
 ghost use Rattle.pl_tlp.specs.Header as places;
