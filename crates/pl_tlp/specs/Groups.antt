@@ -1,5 +1,6 @@
 -- The groups of kinds that the rules speak of.
--- PCI Express Base Specification 5.0, chapter 2: Fmt and Type fields, non-posted requests, completions.
+-- PCI Express Base Specification 5.0, chapter 2: Fmt and Type fields, non-posted requests,
+-- completions.
 use Rattle.std.specs.Prelude.{Bool, true, false, ◌||◌}
 use Rattle.pl_tlp.specs.declared.kind.Kind.{Kind}
 use Rattle.pl_tlp.specs.declared.kind.Kind.TheVariants.{MRd, MRdLk, MWr, IORd, IOWr, CfgRd0, CfgWr0}

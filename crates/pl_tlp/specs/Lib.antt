@@ -4,4 +4,5 @@ pub mod Header
 pub mod Fields
 pub mod Fit
 pub mod Cost
+pub mod FirstDw
 pub mod Encoding

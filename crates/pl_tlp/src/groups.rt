@@ -25,7 +25,10 @@ impl Kind {
     pub fn is_configuration_request(self) -> bool
         ensures { result ≡ spec.is_configuration_request self }
     {
-        matches!(self, Kind::CfgRd0 | Kind::CfgWr0 | Kind::CfgRd1 | Kind::CfgWr1)
+        matches!(
+            self,
+            Kind::CfgRd0 | Kind::CfgWr0 | Kind::CfgRd1 | Kind::CfgWr1
+        )
     }
 
     /// Whether it reads or writes I/O or configuration space.
