@@ -5,7 +5,7 @@ use Rattle.pl_capture.specs.Entry.{Entry}
 use Rattle.pl_tlp.specs.Fields.{Fields}
 use Rattle.pl_credit.specs.Credits as credit
 use Rattle.pl_pair.specs.History.{request_id}
-use Rattle.pl_pair.specs.Kinds.{needs_completion, is_completion}
+use Rattle.pl_tlp.specs.Groups.{needs_completion, is_completion}
 use Rattle.pl_pair.specs.Pairs as pair
 use Rattle.pl_profile.specs.declared.profile.Profile.{Profile}
 use Rattle.pl_engine.specs.declared.parts.Parts.{Parts}
@@ -25,10 +25,10 @@ pub record IsReady (profile : Profile) (at : ℕ) (parts : Parts) : Type 0 where
   pub pairs : pair.room_of parts.pairs ≡ profile.outstanding
 
 -- a request or a completion that the pairs can take: its Tag has 8 bits, and there is room for it
-pub record IsTakable (pairs : pair.Kept) (direction : Dir) (fields : Fields) : Type 0 where
+pub record IsTakable (pairs : pair.Kept) (dir : Dir) (fields : Fields) : Type 0 where
   pub tag : (needs_completion fields.kind || is_completion fields.kind) ≡ true → fields.tag < 256
-  pub room : needs_completion fields.kind ≡ true → pair.LacksRoom pairs (request_id direction fields) → ⊥
+  pub room : needs_completion fields.kind ≡ true → pair.LacksRoom pairs (request_id dir fields) → ⊥
 
 abbrev pub IsTakableIfWhole : pair.Kept → Dir → Option Fields → Type 0
-IsTakableIfWhole pairs direction None = Unit {0}
-IsTakableIfWhole pairs direction (Some fields) = IsTakable pairs direction fields
+IsTakableIfWhole pairs dir None = Unit {0}
+IsTakableIfWhole pairs dir (Some fields) = IsTakable pairs dir fields

@@ -4,7 +4,8 @@
 use pl_base::Body;
 use pl_seq::Place;
 
-/// How an item came: a TLP in this way, which stands here in the order of its direction, a DLLP or a link down.
+/// How an item came: a TLP in this way, which stands here in the order of its direction, a DLLP or
+/// a link down.
 #[derive(Clone, Copy)]
 pub(crate) enum Arrival {
     Tlp(Body, Place),

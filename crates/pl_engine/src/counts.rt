@@ -10,7 +10,7 @@ ghost use Rattle.pl_profile.specs.declared.profile.Profile.{Profile};
 
 use crate::arrival::Arrival;
 use crate::broken::Broken;
-use crate::parts::Parts;
+use crate::parts::{MOST_OF_AN_ITEM, Parts};
 use crate::peaks::Peaks;
 use crate::traffic::Arrivals;
 use pl_base::{Dir, Found};
@@ -41,14 +41,18 @@ impl Counts {
         }
     }
 
-    /// Counts item `at` of this direction, which came so and broke these rules, and behind which the parts stand so.
+    /// Counts item `at` of this direction, which came so and broke these rules, and behind which
+    /// the parts stand so.
     pub(crate) fn add(&mut self, dir: Dir, arrival: Arrival, found: &Found, parts: &Parts, at: u64)
         requires before { AreBefore at self.old }
         requires few { at ≤ 2 ^ 59 }
-        requires most { array_vec_len found.now ≤ 31 }
-        ensures stands { (profile : Profile) (past : List Entry) (x : Entry) → CountsStandFor profile self.old past →
-            x.dir ≡ dir → Arrived past x arrival → found.now.items ≡ verdicts_at profile past x → at ≡ number_after past →
-            PartsStandFor profile parts.now (x ∷ past) → CountsStandFor profile self.new (x ∷ past) }
+        requires most { array_vec_len found.now ≤ MOST_OF_AN_ITEM }
+        ensures stands { (profile : Profile) (past : List Entry) (x : Entry) →
+            CountsStandFor profile self.old past →
+            x.dir ≡ dir → Arrived past x arrival → found.now.items ≡ verdicts_at profile past x →
+            at ≡ number_after past →
+            PartsStandFor profile parts.now (x ∷ past) →
+            CountsStandFor profile self.new (x ∷ past) }
         ensures before { AreBefore (at + 1) self.new }
     {
         self.arrivals.come(dir, arrival);

@@ -1,11 +1,9 @@
 //! The engine itself.
-ghost use Rattle.std.specs.Prelude.{◌≡◌, ◌+◌, ◌<◌, ◌≤◌, ◌∷◌, ◌^◌, [], List, IfOk, IfErr, OnOk, OnErr, Some, None, length};
+ghost use Rattle.std.specs.Prelude.{◌≡◌, ◌+◌, ◌<◌, ◌≤◌, ◌∷◌, ◌^◌, [], List, IfOk, IfErr, OnOk};
+ghost use Rattle.std.specs.Prelude.{OnErr, Some, None, length};
 ghost use Rattle.arrayvec.specs.ArrayVec.{array_vec_len};
 ghost use Rattle.pl_capture.specs.Entry.{Entry, view as entry, IsLawful};
-ghost use Rattle.pl_pair.specs.History.{outstanding};
-ghost use Rattle.pl_seq.specs.History.{unacknowledged};
 ghost use Rattle.pl_engine.specs.Counts.{AreBefore};
-ghost use Rattle.pl_engine.specs.Events.{lane_events, pair_events};
 ghost use Rattle.pl_engine.specs.Parts.{IsReady};
 
 use crate::broken::Broken;
@@ -13,7 +11,7 @@ use crate::counts::Counts;
 use crate::parts::Parts;
 use crate::refused::Refused;
 use crate::traffic::Arrivals;
-use pl_base::{Dir, Found, Tally};
+use pl_base::{Dir, Found, MOST_VERDICTS, Tally};
 use pl_capture::Item;
 use pl_profile::Profile;
 use std::alloc::{AllocError, Global};
@@ -23,8 +21,8 @@ const NOTES: u64 = 512;
 
 /// Judges the items of a capture one after another, under the profile with which it was opened.
 ///
-/// It keeps no item: only the numbers and the unacknowledged TLPs of both lanes, the credits, the open requests, and
-/// counts.
+/// It keeps no item: only the numbers and the unacknowledged TLPs of both lanes, the credits, the
+/// open requests, and counts.
 #[derive(Drop)]
 pub struct Engine {
     profile: Profile,
@@ -37,7 +35,7 @@ pub struct Engine {
 
 impl Engine {
     ghost use Rattle.pl_engine.specs.Engine.{StandsFor};
-    ghost use Rattle.pl_engine.specs.Tally.{tally_of};
+    ghost use Rattle.pl_engine.specs.Tally.{open_after, tally_of, unacknowledged_after};
     ghost use Rattle.pl_engine.specs.Verdicts.{blocked, verdicts_at};
 
     /// An engine that has judged nothing. It takes all the memory that it ever uses.
@@ -63,24 +61,25 @@ impl Engine {
     ///
     /// # Errors
     ///
-    /// Where the item would be taken and has no room among the unacknowledged TLPs of its direction, where it is a
-    /// request that needs a completion or a completion with a tag of ten bits, or where it has no room among the open
-    /// requests; in this order. The engine is then unchanged.
+    /// Where the item would be taken and has no room among the unacknowledged TLPs of its
+    /// direction, where it is a request that needs a completion or a completion with a tag of ten
+    /// bits, or where it has no room among the open requests; in this order. The engine is then
+    /// unchanged.
     pub fn feed(&mut self, item: &Item) -> Result<Found, Refused>
         requires lawful { IsLawful (entry item.now) }
         requires few { self.old.items < 2 ^ 59 }
 
         // For every history for which the engine stands, the answer is that of the rules.
-        ensures refused { (past : List Entry) → StandsFor self.old past →
-            IfErr result (λ refused. blocked self.old.profile past (entry item.now) ≡ Some refused) }
+        ensures refused { (past : List Entry) → StandsFor self.old past → IfErr result (λ refused.
+            blocked self.old.profile past (entry item.now) ≡ Some refused) }
         ensures allowed { (past : List Entry) → StandsFor self.old past →
             OnOk result (blocked self.old.profile past (entry item.now) ≡ None) }
-        ensures verdicts { (past : List Entry) → StandsFor self.old past →
-            IfOk result (λ found. found.items ≡ verdicts_at self.old.profile past (entry item.now)) }
+        ensures verdicts { (past : List Entry) → StandsFor self.old past → IfOk result (λ found.
+            found.items ≡ verdicts_at self.old.profile past (entry item.now)) }
         ensures stands { (past : List Entry) → StandsFor self.old past →
             OnOk result (StandsFor self.new (entry item.now ∷ past)) }
 
-        ensures most { IfOk result (λ found. array_vec_len found ≤ 32) }
+        ensures most { IfOk result (λ found. array_vec_len found ≤ MOST_VERDICTS) }
         ensures profile { self.new.profile ≡ self.old.profile }
         ensures items { OnOk result (self.new.items ≡ self.old.items + 1) }
         ensures err { OnErr result (self.new ≡ self.old) }
@@ -90,14 +89,15 @@ impl Engine {
         Ok(found)
     }
 
-    /// As [`Engine::feed`], with the verdicts in a list that was empty, and is empty after a refusal.
+    /// As [`Engine::feed`], with the verdicts in a list that was empty, and is empty after a
+    /// refusal.
     pub fn feed_into(&mut self, item: &Item, found: &mut Found) -> Result<(), Refused>
         requires lawful { IsLawful (entry item.now) }
         requires few { self.old.items < 2 ^ 59 }
         requires none { found.old.items ≡ [] }
 
-        ensures refused { (past : List Entry) → StandsFor self.old past →
-            IfErr result (λ refused. blocked self.old.profile past (entry item.now) ≡ Some refused) }
+        ensures refused { (past : List Entry) → StandsFor self.old past → IfErr result (λ refused.
+            blocked self.old.profile past (entry item.now) ≡ Some refused) }
         ensures allowed { (past : List Entry) → StandsFor self.old past →
             OnOk result (blocked self.old.profile past (entry item.now) ≡ None) }
         ensures verdicts { (past : List Entry) → StandsFor self.old past →
@@ -105,7 +105,7 @@ impl Engine {
         ensures stands { (past : List Entry) → StandsFor self.old past →
             OnOk result (StandsFor self.new (entry item.now ∷ past)) }
 
-        ensures most { array_vec_len found.new ≤ 32 }
+        ensures most { array_vec_len found.new ≤ MOST_VERDICTS }
         ensures profile { self.new.profile ≡ self.old.profile }
         ensures items { OnOk result (self.new.items ≡ self.old.items + 1) }
         ensures err { OnErr result (self.new ≡ self.old) }
@@ -118,20 +118,21 @@ impl Engine {
         Ok(())
     }
 
-    /// How many things it keeps of the items, however many these were: the open requests, the unacknowledged TLPs of
-    /// both directions, and 512 for the latest items, the initial credits, the grants and the marks, which are never
-    /// more.
+    /// How many things it keeps of the items, however many these were: the open requests, the
+    /// unacknowledged TLPs of both directions, and 512 for the latest items, the initial credits,
+    /// the grants and the marks, which are never more.
     pub fn kept(&self) -> u64
-        ensures { (past : List Entry) → StandsFor self.now past → result ≡ outstanding (pair_events past)
-            + (length (unacknowledged (lane_events Dir.Down past)) + length (unacknowledged (lane_events Dir.Up past)))
-            + 512 }
+        ensures { (past : List Entry) → StandsFor self.now past →
+            result ≡ open_after past
+            + (unacknowledged_after Dir.Down past + unacknowledged_after Dir.Up past) + NOTES }
     {
         u64::from(self.parts.pairs.outstanding()) + self.parts.lanes.unacknowledged() + NOTES
     }
 
     /// What is counted of the items that it judged.
     pub fn tally(&self) -> Tally
-        ensures { (past : List Entry) → StandsFor self.now past → result ≡ tally_of self.now.profile past }
+        ensures { (past : List Entry) → StandsFor self.now past →
+            result ≡ tally_of self.now.profile past }
     {
         let Arrivals {
             down,

@@ -17,17 +17,23 @@ use crate::packet::{dllp_of, tlp_of};
 use crate::refused::Refused;
 use crate::state::body;
 use crate::transactions::{refusal, transact};
-use crate::verdict::add_if;
-use pl_base::{Body, Found, Rule};
+use pl_base::{Body, Found, Rule, add_if};
 use pl_capture::{Item, ItemKind};
 use pl_credit::Credits;
 use pl_dllp::Decoded;
-use pl_form::add_formation;
-use pl_pair::Pairs;
+use pl_form::{MOST_OF_A_TLP, judge_into};
+use pl_pair::{MOST_OF_A_COMPLETION, Pairs};
 use pl_profile::Profile;
 use pl_seq::Place;
 use pl_tlp::view;
 use std::alloc::{AllocError, Global};
+
+/// The most rules that an item breaks: S4 of its lane, those of the credits, of its formation and
+/// of the pairs.
+pub(crate) const MOST_OF_AN_ITEM: usize = 1
+    + pl_credit::MOST_OF_AN_ITEM
+    + MOST_OF_A_TLP
+    + MOST_OF_A_COMPLETION;
 
 /// The sequence numbers of both directions, the credits and the open requests.
 #[derive(Drop)]
@@ -65,13 +71,14 @@ impl Parts {
         requires lawful { IsLawful (entry item.now) }
         requires ready { IsReady profile.now at self.old }
         requires none { found.old.items ≡ [] }
-        ensures judges { (past : List Entry) → PartsStandFor profile.now self.old past → at ≡ number_after past →
+        ensures judges { (past : List Entry) → PartsStandFor profile.now self.old past →
+            at ≡ number_after past →
             Judges profile.now past (entry item.now) self.new result found.new.items }
         ensures arrived { (past : List Entry) → PartsStandFor profile.now self.old past →
             IfOk result (Arrived past (entry item.now)) }
         ensures refused { OnErr result ((self.new ≡ self.old) × (found.new ≡ found.old)) }
         ensures ready { IsReady profile.now (at + 1) self.new }
-        ensures most { array_vec_len found.new ≤ 31 }
+        ensures most { array_vec_len found.new ≤ MOST_OF_AN_ITEM }
     {
         match item.kind {
             ItemKind::Tlp => self.tlp(profile, item, at, found),
@@ -99,13 +106,14 @@ impl Parts {
         requires lawful { IsLawful (entry item.now) }
         requires ready { IsReady profile.now at self.old }
         requires none { found.old.items ≡ [] }
-        ensures judges { (past : List Entry) → PartsStandFor profile.now self.old past → at ≡ number_after past →
+        ensures judges { (past : List Entry) → PartsStandFor profile.now self.old past →
+            at ≡ number_after past →
             Judges profile.now past (entry item.now) self.new result found.new.items }
         ensures arrived { (past : List Entry) → PartsStandFor profile.now self.old past →
             IfOk result (Arrived past (entry item.now)) }
         ensures refused { OnErr result ((self.new ≡ self.old) × (found.new ≡ found.old)) }
         ensures ready { IsReady profile.now (at + 1) self.new }
-        ensures most { array_vec_len found.new ≤ 31 }
+        ensures most { array_vec_len found.new ≤ MOST_OF_AN_ITEM }
     {
         let arrived = body(item);
         let place = self.lanes.place(item, arrived);
@@ -130,14 +138,16 @@ impl Parts {
         requires kind { item.now.kind ≡ ItemKind.Tlp }
         requires lawful { IsLawful (entry item.now) }
         requires arrived { arrived ≡ state_of (entry item.now) }
-        requires taken { place_of (lane_in item.now.dir self.old.lanes).next (sequence_number item.now.body.now) arrived ≡ Place.Taken }
+        requires taken { place_of (lane_in item.now.dir self.old.lanes).next
+            (sequence_number item.now.body.now) arrived ≡ Place.Taken }
         requires ready { IsReady profile.now at self.old }
         requires none { found.old.items ≡ [] }
-        ensures judges { (past : List Entry) → PartsStandFor profile.now self.old past → at ≡ number_after past →
+        ensures judges { (past : List Entry) → PartsStandFor profile.now self.old past →
+            at ≡ number_after past →
             Judges profile.now past (entry item.now) self.new result found.new.items }
         ensures refused { OnErr result ((self.new ≡ self.old) × (found.new ≡ found.old)) }
         ensures ready { IsReady profile.now (at + 1) self.new }
-        ensures most { array_vec_len found.new ≤ 31 }
+        ensures most { array_vec_len found.new ≤ MOST_OF_AN_ITEM }
     {
         if self.lanes.full(item.dir) {
             return Err(Refused::Unacknowledged(profile.unacknowledged));
@@ -148,7 +158,7 @@ impl Parts {
         }
         self.lanes.tlp(item, arrived, at, found);
         spend(&mut self.credits, profile, item.dir, &packet, at, found);
-        add_formation(profile, item.dir, &packet, at, found);
+        judge_into(profile, item.dir, &packet, at, found);
         transact(&mut self.pairs, profile, item.dir, &packet, at, found);
         Ok(())
     }
@@ -160,10 +170,11 @@ impl Parts {
         requires lawful { IsLawful (entry item.now) }
         requires ready { IsReady profile.now at self.old }
         requires none { found.old.items ≡ [] }
-        ensures judged { (past : List Entry) → PartsStandFor profile.now self.old past → at ≡ number_after past →
+        ensures judged { (past : List Entry) → PartsStandFor profile.now self.old past →
+            at ≡ number_after past →
             IsJudged profile.now past (entry item.now) self.new found.new.items }
         ensures ready { IsReady profile.now (at + 1) self.new }
-        ensures most { array_vec_len found.new ≤ 31 }
+        ensures most { array_vec_len found.new ≤ MOST_OF_AN_ITEM }
     {
         let packet = dllp_of(item.body);
         match packet {
@@ -172,19 +183,21 @@ impl Parts {
                 hear(&mut self.credits, item.dir, &packet, at, found);
             }
             Decoded::BadCrc => {
-                add_if(true, Rule::L2, at, found);
+                add_if(found, true, Rule::L2, at, None, None);
                 hear(&mut self.credits, item.dir, &packet, at, found);
             }
-            Decoded::Reserved => add_if(true, Rule::L3, at, found),
+            Decoded::Reserved => add_if(found, true, Rule::L3, at, None, None),
         }
     }
 
     /// A link down begins a new span, and breaks no rule.
     #[tactic(auto, unfolding(crate::specs::Verdicts::verdicts_at, crate::specs::Verdicts::blocked))]
     fn link_down(&mut self)
-        ensures judged { (profile : Profile) (past : List Entry) (x : Entry) → x.kind ≡ ItemKind.LinkDown →
+        ensures judged { (profile : Profile) (past : List Entry) (x : Entry) →
+            x.kind ≡ ItemKind.LinkDown →
             IsJudged profile past x self.new [] }
-        ensures ready { (profile : Profile) (at : ℕ) → IsReady profile at self.old → IsReady profile (at + 1) self.new }
+        ensures ready { (profile : Profile) (at : ℕ) → IsReady profile at self.old →
+            IsReady profile (at + 1) self.new }
     {
         self.lanes.reset();
         self.credits.reset();

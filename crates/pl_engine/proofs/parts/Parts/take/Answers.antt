@@ -14,8 +14,8 @@ use Rattle.pl_engine.specs.Verdicts.{broken_by, sequence_verdicts, verdicts_at, 
 use Rattle.pl_engine.proofs.Taken.{joined, stands-lane, place-is, room-is, slot, taken, taken-credits, taken-pairs, taken-verdicts, taken-blocked}
 use Rattle.pl_engine.proofs.parts.Parts.take.Goals as goal
 
-pub add_formation-requires-clause-header : goal.add_formation-requires-clause-header
-add_formation-requires-clause-header c = subst HasHeaderIfWhole (sym c.view-packet.ensures.outcome) (view_has_header c.tlp_of.result.now)
+pub judge_into-requires-clause-header : goal.judge_into-requires-clause-header
+judge_into-requires-clause-header c = subst HasHeaderIfWhole (sym c.view-packet.ensures.outcome) (view_has_header c.tlp_of.result.now)
 
 pub returns-in-Some-clause-judges : goal.returns-in-Some-clause-judges
 returns-in-Some-clause-judges c = λ past stands at.
@@ -40,15 +40,15 @@ returns-clause-judges c = λ past stands at.
     let free : has_no_slot profile past x ≡ false = slot profile past x c.args.self.now.lanes c.full.result room (c.full.ensures.past _ lane) c.if-full.false in
     record {
       allowed = taken-blocked past x c.requires.kind profile _ seen is free ∙ sym (c.refusal.ensures.past _ stands.pairs) ∙ c.in_default.is;
-      verdicts = joined c.tlp.new.found.items c.spend.new.found.items c.add_formation.new.found.items c.transact.new.found.items (verdicts_at profile past x)
+      verdicts = joined c.tlp.new.found.items c.spend.new.found.items c.judge_into.new.found.items c.transact.new.found.items (verdicts_at profile past x)
           (sequence_verdicts past x)
           (broken_by (credit_verdicts profile (credit_events profile past)) (spending_of profile x.dir (if_whole packet) (number_after past)))
           (formation_verdicts profile x.dir packet (number_after past))
           (broken_by (pair_verdicts profile (pair_events past)) (transaction_of x.dir (if_whole packet) (number_after past)))
           (c.tlp.ensures.verdicts past stands.lanes at)
           (subst (λ n. c.spend.new.found.items ≡ c.tlp.new.found.items ++ broken_by (credit_verdicts profile (credit_events profile past)) (spending_of profile x.dir (if_whole packet) n)) at (c.spend.ensures.verdicts _ stands.credits))
-          (subst (λ n. c.add_formation.new.found.items ≡ c.spend.new.found.items ++ formation_verdicts profile x.dir packet n) at c.add_formation.ensures.verdicts)
-          (subst (λ n. c.transact.new.found.items ≡ c.add_formation.new.found.items ++ broken_by (pair_verdicts profile (pair_events past)) (transaction_of x.dir (if_whole packet) n)) at (c.transact.ensures.verdicts _ stands.pairs))
+          (subst (λ n. c.judge_into.new.found.items ≡ c.spend.new.found.items ++ formation_verdicts profile x.dir packet n) at c.judge_into.ensures.verdicts)
+          (subst (λ n. c.transact.new.found.items ≡ c.judge_into.new.found.items ++ broken_by (pair_verdicts profile (pair_events past)) (transaction_of x.dir (if_whole packet) n)) at (c.transact.ensures.verdicts _ stands.pairs))
           (taken-verdicts past x c.requires.kind profile packet seen is);
       stands = record {
         lanes = c.tlp.ensures.stands past stands.lanes at;
