@@ -6,12 +6,12 @@
 
 mod failed;
 mod files;
-mod memory;
+pub mod memory;
 mod shelf;
 mod sink;
 mod standard_output;
 
-pub use failed::Failed;
+pub use failed::{Failed, FaultCount};
 pub use files::FileShelf;
 pub use memory::{MemShelf, MemSink};
 pub use shelf::Shelf;

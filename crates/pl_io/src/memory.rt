@@ -1,6 +1,6 @@
 //! The outside in memory. These objects tell all that they hold, and fail at the calls that they are told.
 mod file;
-mod plan;
+pub mod plan;
 mod shelf;
 mod sink;
 

@@ -1,0 +1,4 @@
+pub mod Archive
+pub mod Counts
+pub mod Listing
+pub mod Puts
