@@ -1,5 +1,5 @@
 -- What a put answers, and what it makes of the archive.
-use Rattle.std.specs.Prelude.{ℕ, suc, ◌==◌, if◌then◌else◌, List, [], ◌∷◌, length, nat_lt, Option, Some, None, bytes_eq}
+use Rattle.std.specs.Prelude.{ℕ, suc, ◌==◌, if◌then◌else◌, Bool, true, false, List, [], ◌∷◌, length, nat_lt, Option, Some, None, bytes_eq}
 use Rattle.pl_keeper.specs.declared.keeper.Put.{Put}
 use Rattle.pl_keeper.specs.declared.keeper.Put.TheVariants.{New, Same, OtherProfile, OtherBytes, NoProfile, Full}
 use Rattle.pl_keeper.specs.Archive.{Profile, Capture, Archive, profile_at, capture_at, profiles_of, captures_of, with_profile, with_capture}
@@ -45,3 +45,9 @@ after_profile _ a p = a
 abbrev pub after_capture : Put → Archive → Capture → Archive
 after_capture New a c = with_capture a c
 after_capture _ a c = a
+
+-- New and Same follow a commit
+abbrev pub commits : Put → Bool
+commits New = true
+commits Same = true
+commits _ = false

@@ -1,6 +1,7 @@
 //! Why a keeper has no answer.
 
 use pl_io::Failed;
+use sqlite::ErrorCode;
 use std::alloc::{AllocError, AllocFailed};
 use thiserror::Error;
 
@@ -13,6 +14,15 @@ pub enum KeepError {
     /// Memory was wanting. The count of faults is as it was.
     #[error("memory was wanting")]
     Memory,
+}
+
+impl From<sqlite::Error> for KeepError {
+    fn from(error: sqlite::Error) -> KeepError {
+        match error {
+            sqlite::Error::SqliteFailure(ErrorCode::OutOfMemory) => KeepError::Memory,
+            _ => KeepError::Failed,
+        }
+    }
 }
 
 impl From<Failed> for KeepError {

@@ -1,4 +1,4 @@
-use Rattle.std.proofs.Common.{◌≡◌, ◌<◌, length, get_or, sym, arith}
+use Rattle.std.proofs.Common.{◌≡◌, sym, arith}
 use Rattle.pl_keeper.specs.Puts.{first_difference}
 use Rattle.pl_keeper.proofs.Differences.{first_at}
 use Rattle.pl_keeper.proofs.compare.first_difference.Goals as goal
