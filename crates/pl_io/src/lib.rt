@@ -8,7 +8,7 @@ mod conn;
 mod door;
 mod failed;
 mod files;
-mod memory;
+pub mod memory;
 mod shelf;
 mod sink;
 mod standard_output;
@@ -16,7 +16,7 @@ mod tcp;
 
 pub use conn::{Conn, send_all};
 pub use door::Door;
-pub use failed::Failed;
+pub use failed::{Failed, FaultCount};
 pub use files::FileShelf;
 pub use memory::{MemConn, MemDoor, MemShelf, MemSink};
 pub use shelf::Shelf;

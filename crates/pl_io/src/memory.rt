@@ -3,7 +3,7 @@
 mod conn;
 mod door;
 mod file;
-mod plan;
+pub mod plan;
 mod reserved;
 mod shelf;
 mod sink;
