@@ -7,7 +7,7 @@ use Rattle.pl_filter.specs.Answers.{IsAnswer}
 use Rattle.pl_filter.specs.Grammar.{Spells, SpellsTest, IsShallow}
 use Rattle.pl_filter.specs.Reading.{◌>>=◌, Read, at_next, close_by, filter_by, joined_by, nothing_behind, operands, operation_by, operator_in, operator_text, read_close, read_filter, read_negation, read_operation, read_pair, reading, test_in, test_or_refusal}
 use Rattle.pl_filter.specs.Tokens.{Token, Open, Close, Word, Placed, placed, bare, tokens}
-use Rattle.pl_filter.specs.Trees.{Tree, Both, Either, Neither, Passes}
+use Rattle.pl_filter.specs.Trees.{Tree, Both, Either, Negated, Passes}
 use Rattle.pl_filter.specs.declared.error.FilterError.{FilterError}
 use Rattle.pl_filter.specs.declared.error.FilterError.TheVariants.{Syntax, TooDeep, Memory}
 use Rattle.pl_filter.specs.declared.filter.Test.{Test}
@@ -78,7 +78,7 @@ close_reads end (x ∷ rest) st deep = close_token end x.at x.token rest st deep
 
 negation_close : (end : ℕ) (ts : List Placed) (st : List Want) (x : Tree × List Placed) → Reads end ts (Closing ∷ st) (Ok x)
     → (c : Result (List Placed) FilterError) → ReadsClose end x.1 st c
-    → ReadsNegation end ts st (c >>= λ rest. Ok (Neither x.0, rest))
+    → ReadsNegation end ts st (c >>= λ rest. Ok (Negated x.0, rest))
 negation_close end ts st x h (Err e) c = h.1 ∙ c
 negation_close end ts st x h (Ok rest) c = (
   record {
@@ -94,7 +94,7 @@ negation_close end ts st x h (Ok rest) c = (
 )
 
 negation_by : (end : ℕ) (ts : List Placed) (st : List Want) → depth st ≤ 32 → (r : Read) → Reads end ts (Closing ∷ st) r
-    → ReadsNegation end ts st (r >>= λ f. read_close end f.1 >>= λ rest. Ok (Neither f.0, rest))
+    → ReadsNegation end ts st (r >>= λ f. read_close end f.1 >>= λ rest. Ok (Negated f.0, rest))
 negation_by end ts st deep (Err e) h = h
 negation_by end ts st deep (Ok x) h = negation_close end ts st x h (read_close end x.1) (close_reads end x.1 st deep)
 

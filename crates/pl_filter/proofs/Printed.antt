@@ -19,7 +19,7 @@ use Rattle.pl_filter.specs.Names.{text_of}
 use Rattle.pl_filter.specs.Reading.{is_word_byte, run_length}
 use Rattle.pl_filter.specs.Tests.{front_of, printed, value_text}
 use Rattle.pl_filter.specs.Tokens.{Token, Open, Close, Word, Placed, placed, bare, tokens, tokens_from}
-use Rattle.pl_filter.specs.Trees.{Tree, Both, Either, Neither, Passes, nesting}
+use Rattle.pl_filter.specs.Trees.{Tree, Both, Either, Negated, Passes, nesting}
 use Rattle.pl_filter.specs.declared.filter.Test.{Test}
 use Rattle.pl_filter.specs.declared.filter.Test.TheVariants as test
 use Rattle.pl_filter.specs.declared.name.Name.{Name}
@@ -238,15 +238,15 @@ spaced P at bytes rest x = record { front = x.front; end = x.end + 1; lexes = x.
 of_bytes : (P : List Token → Type 0) (at : ℕ) (bytes same rest : List ℕ) → bytes ≡ same → Lexes at same rest P → Lexes at bytes rest P
 of_bytes P at bytes same rest e x = subst (λ b. Lexes at b rest P) (sym e) x
 
-negation_lexes : (f : Tree) → FilterLexes f → FilterLexes (Neither f)
+negation_lexes : (f : Tree) → FilterLexes f → FilterLexes (Negated f)
 negation_lexes f inner at rest e =
     let behind = printed f ++ 41 ∷ rest in
-    let bytes : printed (Neither f) ++ rest ≡ codes "(not " ++ behind = simp append_assoc in
+    let bytes : printed (Negated f) ++ rest ≡ codes "(not " ++ behind = simp append_assoc in
     let x = operator_lexes at 110 (drop 1 (codes "not")) behind refl in
     let y = closed (Spells f) (λ ts. (fs : List Token) × Spells f fs × (ts ≡ fs ++ Close ∷ [])) x.end behind rest (λ ts s. (ts, s, refl)) (inner x.end (41 ∷ rest) refl) in
-    of_bytes (Spells (Neither f)) at (printed (Neither f) ++ rest) (codes "(not " ++ behind) rest bytes
+    of_bytes (Spells (Negated f)) at (printed (Negated f) ++ rest) (codes "(not " ++ behind) rest bytes
     (joined_lexes (λ ts. ts ≡ Open ∷ Word (codes "not") ∷ []) (λ ts. (fs : List Token) × Spells f fs × (ts ≡ fs ++ Close ∷ []))
-    (Spells (Neither f)) at (codes "(not " ++ behind) behind rest
+    (Spells (Negated f)) at (codes "(not " ++ behind) behind rest
     (λ ts us a b. (b.0, b.1, ap (λ xs. xs ++ us) a ∙ ap (λ xs. Open ∷ Word (codes "not") ∷ xs) b.2)) x y)
 
 -- two filters and the closing parenthesis
@@ -266,7 +266,7 @@ filter_lexes : (f : Tree) → NumbersFit f → FilterLexes f
 filter_lexes (Passes t) h at rest e =
     let x = test_lexes t h at rest e in
     record { front = x.front; end = x.end; lexes = x.lexes; is = (front_of t ++ value_text t, (value_text t, value_printed t h, refl), x.is) }
-filter_lexes (Neither f) h at rest e = negation_lexes f (filter_lexes f h) at rest e
+filter_lexes (Negated f) h at rest e = negation_lexes f (filter_lexes f h) at rest e
 filter_lexes (Both f g) h at rest e =
     let behind = printed f ++ 32 ∷ (printed g ++ 41 ∷ rest) in
     let bytes : printed (Both f g) ++ rest ≡ codes "(and " ++ behind = simp append_assoc in
@@ -317,7 +317,7 @@ level_closed ts count h =
 
 spelled_level : (f : Tree) (ts : List Token) (count : ℕ) → Spells f ts → count + nesting f ≤ 32 → Level count ts
 spelled_level (Passes t) ts count s h = subst (Level count) (sym s.2) (tt, refl)
-spelled_level (Neither f) ts count s h =
+spelled_level (Negated f) ts count s h =
     let x = level_closed s.0 count (spelled_level f s.0 (count + 1) s.1 (omega arith)) in
     subst (Level count) (sym s.2) ((omega arith, x.0), x.1)
 spelled_level (Both f g) ts count s h =

@@ -5,7 +5,7 @@ use Rattle.std.specs.Option.{option_and_then}
 use Rattle.pl_filter.specs.Grammar.{SpellsTest, Spells, MayBegin, open_behind, IsShallow}
 use Rattle.pl_filter.specs.Reading.{like, test_in, operator_in, operator_text}
 use Rattle.pl_filter.specs.Tokens.{Token, Open, Close, Word}
-use Rattle.pl_filter.specs.Trees.{Tree, Both, Either, Neither, Passes}
+use Rattle.pl_filter.specs.Trees.{Tree, Both, Either, Negated, Passes}
 use Rattle.pl_filter.specs.declared.filter.Test.{Test}
 use Rattle.pl_filter.specs.declared.filter.Test.TheVariants as test
 use Rattle.pl_filter.specs.declared.word.Operator.{Operator}
@@ -80,7 +80,7 @@ operate o rest st = ap (λ x. option_and_then (run rest) (wanted st x)) (operato
 pub run-spells : (f : Tree) (ts : List Token) (st : List Want) → Spells f ts → run ts (Filter ∷ st) ≡ Some st
 run-spells (Passes t) ts st h =
     ap (λ x. run x (Filter ∷ st)) h.2 ∙ ap (λ o. option_and_then (run []) (kept st o)) (test_spelled t h.0 h.1)
-run-spells (Neither f) ts st h =
+run-spells (Negated f) ts st h =
     ap (λ x. run x (Filter ∷ st)) h.2 ∙ operate operator.Not (h.0 ++ Close ∷ []) st ∙ one h.0 st (λ s. run-spells f h.0 s h.1)
 run-spells (Both f g) ts st h =
     ap (λ x. run x (Filter ∷ st)) h.4 ∙ operate operator.And (h.0 ++ (h.1 ++ Close ∷ [])) st
@@ -128,7 +128,7 @@ fills_operation word ts st None e all h = absurd (cc)
 fills_operation word ts st (Some operator.Not) e all h =
     let x = all (Filter ∷ Closing ∷ st) h in
     let y = x.5 in (
-      Neither x.0,
+      Negated x.0,
       Word word ∷ (x.1 ++ Close ∷ []),
       y.0,
       (x.1, x.3, ap (λ v. Open ∷ Word v ∷ (x.1 ++ Close ∷ [])) (operator_sound word operator.Not e)),

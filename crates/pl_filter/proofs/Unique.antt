@@ -5,7 +5,7 @@ use Rattle.pl_filter.specs.Answers.{IsAnswer}
 use Rattle.pl_filter.specs.Grammar.{SpellsTest, Spells}
 use Rattle.pl_filter.specs.Reading.{reading, test_in}
 use Rattle.pl_filter.specs.Tokens.{Token, Open, Close, Word, bare, tokens}
-use Rattle.pl_filter.specs.Trees.{Tree, Both, Either, Neither, Passes}
+use Rattle.pl_filter.specs.Trees.{Tree, Both, Either, Negated, Passes}
 use Rattle.pl_filter.specs.declared.error.FilterError.{FilterError}
 use Rattle.pl_filter.specs.declared.filter.Test.{Test}
 use Rattle.pl_filter.proofs.Descent.{reading_is_answer, same_refusal}
@@ -39,11 +39,11 @@ same_test t u v w xs ys s r h =
     (ap Passes same, cc)
 
 same_one : (f g : Tree) (fs gs xs ys : List Token) → ((xs ys : List Token) → fs ++ xs ≡ gs ++ ys → Same f g xs ys)
-    → (fs ++ Close ∷ []) ++ xs ≡ (gs ++ Close ∷ []) ++ ys → Same (Neither f) (Neither g) xs ys
+    → (fs ++ Close ∷ []) ++ xs ≡ (gs ++ Close ∷ []) ++ ys → Same (Negated f) (Negated g) xs ys
 same_one f g fs gs xs ys inner h =
     let r = inner (Close ∷ xs) (Close ∷ ys) (sym (append_assoc fs (Close ∷ []) xs) ∙ h ∙ append_assoc gs (Close ∷ []) ys) in
     let e = r.1 in
-    (ap Neither r.0, cc)
+    (ap Negated r.0, cc)
 
 regrouped : (a b c d : List Token) → (a ++ (b ++ c)) ++ d ≡ a ++ (b ++ (c ++ d))
 regrouped a b c d = append_assoc a (b ++ c) d ∙ ap (λ x. a ++ x) (append_assoc b c d)
@@ -60,13 +60,13 @@ same_two join f g f' g' fs gs fs' gs' xs ys first second h =
 
 same_reading : (f g : Tree) (fs gs xs ys : List Token) → Spells f fs → Spells g gs → fs ++ xs ≡ gs ++ ys → Same f g xs ys
 same_reading (Passes t) (Passes u) fs gs xs ys s r h = same_test t u s.0 r.0 xs ys s.1 r.1 (both_ways xs ys s.2 r.2 h)
-same_reading (Passes t) (Neither g) fs gs xs ys s r h = absurd (word_is_no_open _ _ _ (both_ways xs ys s.2 r.2 h))
+same_reading (Passes t) (Negated g) fs gs xs ys s r h = absurd (word_is_no_open _ _ _ (both_ways xs ys s.2 r.2 h))
 same_reading (Passes t) (Both g g') fs gs xs ys s r h = absurd (word_is_no_open _ _ _ (both_ways xs ys s.2 r.4 h))
 same_reading (Passes t) (Either g g') fs gs xs ys s r h = absurd (word_is_no_open _ _ _ (both_ways xs ys s.2 r.4 h))
-same_reading (Neither f) (Passes u) fs gs xs ys s r h = absurd (word_is_no_open _ _ _ (sym (both_ways xs ys s.2 r.2 h)))
+same_reading (Negated f) (Passes u) fs gs xs ys s r h = absurd (word_is_no_open _ _ _ (sym (both_ways xs ys s.2 r.2 h)))
 same_reading (Both f f') (Passes u) fs gs xs ys s r h = absurd (word_is_no_open _ _ _ (sym (both_ways xs ys s.4 r.2 h)))
 same_reading (Either f f') (Passes u) fs gs xs ys s r h = absurd (word_is_no_open _ _ _ (sym (both_ways xs ys s.4 r.2 h)))
-same_reading (Neither f) (Neither g) fs gs xs ys s r h =
+same_reading (Negated f) (Negated g) fs gs xs ys s r h =
     same_one f g s.0 r.0 xs ys (λ us vs e. same_reading f g s.0 r.0 us vs s.1 r.1 e)
     (behind_word _ _ _ _ (both_ways xs ys s.2 r.2 h))
 same_reading (Both f f') (Both g g') fs gs xs ys s r h =
@@ -75,15 +75,15 @@ same_reading (Both f f') (Both g g') fs gs xs ys s r h =
 same_reading (Either f f') (Either g g') fs gs xs ys s r h =
     same_two Either f f' g g' s.0 s.1 r.0 r.1 xs ys (λ us vs e. same_reading f g s.0 r.0 us vs s.2 r.2 e)
     (λ us vs e. same_reading f' g' s.1 r.1 us vs s.3 r.3 e) (behind_word _ _ _ _ (both_ways xs ys s.4 r.4 h))
-same_reading (Neither f) (Both g g') fs gs xs ys s r h =
+same_reading (Negated f) (Both g g') fs gs xs ys s r h =
     let e : 110 ≡ 97 = first_byte _ _ _ _ (both_ways xs ys s.2 r.4 h) in absurd (omega (arith, e))
-same_reading (Neither f) (Either g g') fs gs xs ys s r h =
+same_reading (Negated f) (Either g g') fs gs xs ys s r h =
     let e : 110 ≡ 111 = first_byte _ _ _ _ (both_ways xs ys s.2 r.4 h) in absurd (omega (arith, e))
-same_reading (Both f f') (Neither g) fs gs xs ys s r h =
+same_reading (Both f f') (Negated g) fs gs xs ys s r h =
     let e : 97 ≡ 110 = first_byte _ _ _ _ (both_ways xs ys s.4 r.2 h) in absurd (omega (arith, e))
 same_reading (Both f f') (Either g g') fs gs xs ys s r h =
     let e : 97 ≡ 111 = first_byte _ _ _ _ (both_ways xs ys s.4 r.4 h) in absurd (omega (arith, e))
-same_reading (Either f f') (Neither g) fs gs xs ys s r h =
+same_reading (Either f f') (Negated g) fs gs xs ys s r h =
     let e : 111 ≡ 110 = first_byte _ _ _ _ (both_ways xs ys s.4 r.2 h) in absurd (omega (arith, e))
 same_reading (Either f f') (Both g g') fs gs xs ys s r h =
     let e : 111 ≡ 97 = first_byte _ _ _ _ (both_ways xs ys s.4 r.4 h) in absurd (omega (arith, e))

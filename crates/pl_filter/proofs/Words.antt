@@ -7,6 +7,7 @@ use Rattle.std.specs.Option.{option_map, option_or}
 use Rattle.std.specs.Str.{all_ascii_digits, bytes_eq}
 use Rattle.std.proofs.lemmas.Bool.{and_parts, and_from, ltb-true, leb-true, lt-ltb, le-leb}
 use Rattle.std.proofs.lemmas.Slice.Eq.{bytes_eq-Decides}
+use Rattle.std.specs.Bool.{Decides}
 use Rattle.std.proofs.Math.ListN.{take-append-drop}
 use Rattle.pl_base.specs.declared.link.Class.TheVariants.{P, Np, Cpl}
 use Rattle.pl_dllp.specs.declared.packet.Stage.TheVariants.{Init1, Init2, Update}
@@ -93,6 +94,14 @@ named_text name.BadCrc = refl
 named_text name.Reserved = refl
 named_text name.Undefined = refl
 named_text name.WrongSize = refl
+
+-- names are told apart by their texts
+pub names_differ : (a b : Name) → Decides (bytes_eq (text_of a) (text_of b)) (a ≡ b)
+names_differ a b = (
+  λ h. let e = named_text b in let d = named_text a in
+      let same : named (text_of a) ≡ named (text_of b) = ap named (same_text (text_of a) (text_of b) h) in cc,
+  λ h. text_same (text_of a) (text_of b) (ap text_of h),
+)
 
 -- ---- operators
 

@@ -41,7 +41,8 @@ IsTooDeep all at =
 -- this is the answer to this text, want of memory aside
 abbrev pub IsAnswer : List ℕ → Result Tree FilterError → Type 0
 IsAnswer text (Ok f) = Spells f (bare (tokens text)) × IsShallow 0 (bare (tokens text))
-IsAnswer text (Err (Syntax at)) = IsMisplaced (tokens text) at ⊎ (EndsEarly (tokens text) × (at ≡ length text))
+IsAnswer text (Err (Syntax at)) =
+    IsMisplaced (tokens text) at ⊎ (EndsEarly (tokens text) × (at ≡ length text))
 IsAnswer text (Err (TooDeep at)) = IsTooDeep (tokens text) at
 IsAnswer text (Err Memory) = ⊥
 

@@ -1,6 +1,6 @@
 -- Filters of the code: their numbers have 64 bits.
 use Rattle.std.specs.Prelude.{ℕ, ◌<◌, ◌^◌}
-use Rattle.pl_filter.specs.Trees.{Tree, Both, Either, Neither, Passes}
+use Rattle.pl_filter.specs.Trees.{Tree, Both, Either, Negated, Passes}
 use Rattle.pl_filter.specs.declared.filter.Test.{Test}
 use Rattle.pl_filter.specs.declared.filter.Test.TheVariants as test
 
@@ -24,5 +24,5 @@ NumberFits (test.After n) = n < 2 ^ 64
 abbrev pub NumbersFit : Tree → Type 0
 NumbersFit (Both f g) = NumbersFit f × NumbersFit g
 NumbersFit (Either f g) = NumbersFit f × NumbersFit g
-NumbersFit (Neither f) = NumbersFit f
+NumbersFit (Negated f) = NumbersFit f
 NumbersFit (Passes t) = NumberFits t

@@ -1,10 +1,12 @@
--- The grammar of filters: which tokens are which filter. A filter is a test, (not F), (and F F) or (or F F).
-use Rattle.std.specs.Prelude.{◌≡◌, ℕ, ◌+◌, ◌*◌, ◌-◌, ◌<◌, ◌≤◌, ◌^◌, true, List, [], ◌∷◌, ◌++◌, length, codes}
+-- The grammar of filters: which tokens are which filter.
+-- A filter is a test, (not F), (and F F) or (or F F).
+use Rattle.std.specs.Prelude.{◌≡◌, ℕ, ◌+◌, ◌*◌, ◌-◌, ◌<◌, ◌≤◌, ◌^◌, true}
+use Rattle.std.specs.Prelude.{List, [], ◌∷◌, ◌++◌, length, codes}
 use Rattle.std.specs.Str.{all_ascii_digits}
 use Rattle.pl_filter.specs.Names.{text_of}
 use Rattle.pl_filter.specs.Tests.{front_of}
 use Rattle.pl_filter.specs.Tokens.{Token, Open, Close, Word}
-use Rattle.pl_filter.specs.Trees.{Tree, Both, Either, Neither, Passes}
+use Rattle.pl_filter.specs.Trees.{Tree, Both, Either, Negated, Passes}
 use Rattle.pl_filter.specs.declared.filter.Test.{Test}
 use Rattle.pl_filter.specs.declared.filter.Test.TheVariants as test
 
@@ -46,11 +48,14 @@ SpellsTest t word = (value : List ℕ) × SpellsValue t value × (word ≡ front
 -- these tokens are this filter
 abbrev pub Spells : Tree → List Token → Type 0
 Spells (Passes t) ts = (word : List ℕ) × SpellsTest t word × (ts ≡ Word word ∷ [])
-Spells (Neither f) ts = (fs : List Token) × Spells f fs × (ts ≡ Open ∷ Word (codes "not") ∷ (fs ++ Close ∷ []))
+Spells (Negated f) ts =
+    (fs : List Token) × Spells f fs × (ts ≡ Open ∷ Word (codes "not") ∷ (fs ++ Close ∷ []))
 Spells (Both f g) ts =
-    (fs gs : List Token) × Spells f fs × Spells g gs × (ts ≡ Open ∷ Word (codes "and") ∷ (fs ++ (gs ++ Close ∷ [])))
+    (fs gs : List Token) × Spells f fs × Spells g gs
+    × (ts ≡ Open ∷ Word (codes "and") ∷ (fs ++ (gs ++ Close ∷ [])))
 Spells (Either f g) ts =
-    (fs gs : List Token) × Spells f fs × Spells g gs × (ts ≡ Open ∷ Word (codes "or") ∷ (fs ++ (gs ++ Close ∷ [])))
+    (fs gs : List Token) × Spells f fs × Spells g gs
+    × (ts ≡ Open ∷ Word (codes "or") ∷ (fs ++ (gs ++ Close ∷ [])))
 
 -- a filter may begin with these tokens
 abbrev pub MayBegin : List Token → Type 0

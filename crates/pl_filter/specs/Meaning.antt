@@ -1,5 +1,6 @@
 -- What filters mean.
-use Rattle.std.specs.Prelude.{ℕ, Bool, true, false, not, ◌&&◌, ◌||◌, ◌==◌, nat_lt, List, Option, Some, None}
+use Rattle.std.specs.Prelude.{ℕ, ◌==◌, nat_lt, Bool, true, false, not, ◌&&◌, ◌||◌}
+use Rattle.std.specs.Prelude.{Option, Some, None}
 use Rattle.pl_base.specs.declared.link.Body.{Body}
 use Rattle.pl_base.specs.declared.link.Body.TheVariants.{Whole, Nullified, Spoiled}
 use Rattle.pl_base.specs.declared.link.Dir.{Dir}
@@ -15,7 +16,7 @@ use Rattle.pl_engine.specs.State.{state_of}
 use Rattle.pl_tlp.specs.Fields.{Fields}
 use Rattle.pl_filter.specs.Items.{fields_of, item_name}
 use Rattle.pl_filter.specs.Names.{same_name}
-use Rattle.pl_filter.specs.Trees.{Tree, Both, Either, Neither, Passes}
+use Rattle.pl_filter.specs.Trees.{Tree, Both, Either, Negated, Passes}
 use Rattle.pl_filter.specs.declared.filter.Test.{Test}
 use Rattle.pl_filter.specs.declared.filter.Test.TheVariants as test
 use Rattle.pl_filter.specs.declared.name.Name.{Name}
@@ -82,5 +83,5 @@ passes (test.After n) x = nat_lt n x.time
 abbrev pub holds : Tree → Entry → Bool
 holds (Both f g) x = holds f x && holds g x
 holds (Either f g) x = holds f x || holds g x
-holds (Neither f) x = not (holds f x)
+holds (Negated f) x = not (holds f x)
 holds (Passes t) x = passes t x

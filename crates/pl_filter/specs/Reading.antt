@@ -1,14 +1,18 @@
--- What the steps of the reader give. That they come to the answer of a text is proved on the reader itself.
-use Rattle.std.specs.Prelude.{◌≡◌, ℕ, zero, suc, ◌+◌, ◌*◌, ◌-◌, ◌^◌, Bool, ◌&&◌, ◌||◌, not, ◌==◌, nat_lt, nat_le, if◌then◌else◌, List, [], ◌∷◌, length, drop, take, codes, Option, Some, None, find, Result, Ok, Err}
+-- What the steps of the reader give. That they come to the answer of a text is proved on the reader
+-- itself.
+use Rattle.std.specs.Prelude.{◌≡◌, ℕ, zero, suc, ◌+◌, ◌*◌, ◌-◌, ◌^◌, ◌==◌, nat_lt, nat_le}
+use Rattle.std.specs.Prelude.{Bool, ◌&&◌, ◌||◌, not, if◌then◌else◌, List, [], ◌∷◌, length}
+use Rattle.std.specs.Prelude.{take, drop, codes, find, Option, Some, None, Result, Ok, Err}
 use Rattle.std.specs.Char.{is_ascii_digit}
 use Rattle.std.specs.Option.{option_map, option_or}
 use Rattle.std.specs.Str.{bytes_eq}
 use Rattle.pl_filter.specs.Names.{named}
 use Rattle.pl_filter.specs.Tests.{front_of}
 use Rattle.pl_filter.specs.Tokens.{Token, Open, Close, Word, Placed, tokens_from}
-use Rattle.pl_filter.specs.Trees.{Tree, Both, Either, Neither, Passes}
+use Rattle.pl_filter.specs.Trees.{Tree, Both, Either, Negated, Passes, tree}
 use Rattle.pl_filter.specs.declared.error.FilterError.{FilterError}
 use Rattle.pl_filter.specs.declared.error.FilterError.TheVariants.{Syntax, TooDeep, Memory}
+use Rattle.pl_filter.specs.declared.filter.Filter.{Filter}
 use Rattle.pl_filter.specs.declared.filter.Test.{Test}
 use Rattle.pl_filter.specs.declared.filter.Test.TheVariants as test
 use Rattle.pl_filter.specs.declared.name.Name.TheVariants.{Other}
@@ -25,12 +29,12 @@ abbrev pub run_length : List ℕ → ℕ
 run_length [] = 0
 run_length (byte ∷ bytes) = if is_word_byte byte then suc (run_length bytes) else 0
 
--- the number of digits behind the number that stands before them, where each is a digit and it fits 64 bits
+-- the number of digits behind the number before them, where each is a digit and it fits 64 bits
 abbrev pub number_behind : ℕ → List ℕ → Option ℕ
 number_behind n [] = Some n
 number_behind n (byte ∷ bytes) =
-    if is_ascii_digit byte && nat_lt (10 * n + (byte - 48)) (2 ^ 64) then number_behind (10 * n + (byte - 48)) bytes
-    else None
+    if is_ascii_digit byte && nat_lt (10 * n + (byte - 48)) (2 ^ 64)
+    then number_behind (10 * n + (byte - 48)) bytes else None
 
 unfoldable pub number_in : List ℕ → Option ℕ
 number_in digits =
@@ -39,8 +43,9 @@ number_in digits =
 -- a test of each front; the values don't count
 abbrev pub samples : List Test
 samples =
-    test.Any ∷ test.Up ∷ test.Down ∷ test.Tlp ∷ test.Dllp ∷ test.LinkDown ∷ test.Spoiled ∷ test.Nullified
-    ∷ test.Kind Other ∷ test.Number 0 ∷ test.Tag 0 ∷ test.Requester 0 ∷ test.Tc 0 ∷ test.Before 0 ∷ test.After 0 ∷ []
+    test.Any ∷ test.Up ∷ test.Down ∷ test.Tlp ∷ test.Dllp ∷ test.LinkDown ∷ test.Spoiled
+    ∷ test.Nullified ∷ test.Kind Other ∷ test.Number 0 ∷ test.Tag 0 ∷ test.Requester 0 ∷ test.Tc 0
+    ∷ test.Before 0 ∷ test.After 0 ∷ []
 
 abbrev pub without_value : Test → List ℕ → Option Test
 without_value t [] = Some t
@@ -67,8 +72,8 @@ with_value test.Nullified value = without_value test.Nullified value
 -- the test of a word that begins with the front of this one
 unfoldable pub like : Test → List ℕ → Option Test
 like t word =
-    if bytes_eq (take (length (front_of t)) word) (front_of t) then with_value t (drop (length (front_of t)) word)
-    else None
+    if bytes_eq (take (length (front_of t)) word) (front_of t)
+    then with_value t (drop (length (front_of t)) word) else None
 
 abbrev pub first_like : List Test → List ℕ → Option Test
 first_like [] word = None
@@ -97,7 +102,8 @@ tokens_at text from = tokens_from from (drop from text)
 -- ---- filters
 
 infixl 10 ◌>>=◌
-abbrev pub ◌>>=◌ : {A B : Type 0} → Result A FilterError → (A → Result B FilterError) → Result B FilterError
+abbrev pub ◌>>=◌ : {A B : Type 0} → Result A FilterError → (A → Result B FilterError)
+    → Result B FilterError
 (Ok x) >>= f = f x
 (Err e) >>= f = Err e
 
@@ -116,7 +122,8 @@ abbrev pub Read : Type 0
 Read = Result (Tree × List Placed) FilterError
 
 -- the next token and what stands behind it, or the end of the text
-abbrev pub at_next : {A : Type 0} → ℕ → (ℕ → Token → List Placed → Result A FilterError) → List Placed → Result A FilterError
+abbrev pub at_next : {A : Type 0} → ℕ → (ℕ → Token → List Placed → Result A FilterError)
+    → List Placed → Result A FilterError
 at_next end read [] = Err (Syntax end)
 at_next end read (next ∷ rest) = read next.at next.token rest
 
@@ -133,10 +140,11 @@ unfoldable pub read_negation : ℕ → (List Placed → Read) → List Placed �
 read_negation end filter ts = do
   f ← filter ts
   rest ← read_close end f.1
-  Ok (Neither f.0, rest)
+  Ok (Negated f.0, rest)
 
 -- two filters and a closing parenthesis
-unfoldable pub read_pair : ℕ → (List Placed → Read) → List Placed → Result (Tree × Tree × List Placed) FilterError
+unfoldable pub read_pair : ℕ → (List Placed → Read) → List Placed
+    → Result (Tree × Tree × List Placed) FilterError
 read_pair end filter ts = do
   f ← filter ts
   g ← filter f.1
@@ -170,10 +178,35 @@ filter_by inside at Open rest = inside at rest
 filter_by inside at Close rest = Err (Syntax at)
 filter_by inside at (Word word) rest = test_or_refusal at (test_in word) rest
 
--- the filter at the front, where so many more parentheses may be opened; the text ends at this place
+-- The filter at the front, where so many more parentheses may be opened. The text ends at this
+-- place.
 unfoldable pub read_filter : ℕ → ℕ → List Placed → Read
 read_filter end zero ts = at_next end (filter_by (λ at rest. Err (TooDeep at))) ts
-read_filter end (suc left) ts = at_next end (filter_by (λ at rest. read_operation end (read_filter end left) rest)) ts
+read_filter end (suc left) ts =
+    at_next end (filter_by (λ at rest. read_operation end (read_filter end left) rest)) ts
+
+-- the steps from a place in a text on
+abbrev pub filter_in : List ℕ → ℕ → ℕ → Read
+filter_in text left from = read_filter (length text) left (tokens_at text from)
+
+abbrev pub operation_in : List ℕ → ℕ → ℕ → Read
+operation_in text left from =
+    read_operation (length text) (read_filter (length text) left) (tokens_at text from)
+
+abbrev pub negation_in : List ℕ → ℕ → ℕ → Read
+negation_in text left from =
+    read_negation (length text) (read_filter (length text) left) (tokens_at text from)
+
+abbrev pub pair_in : List ℕ → ℕ → ℕ → Result (Tree × Tree × List Placed) FilterError
+pair_in text left from =
+    read_pair (length text) (read_filter (length text) left) (tokens_at text from)
+
+abbrev pub close_in : List ℕ → ℕ → Result (List Placed) FilterError
+close_in text from = read_close (length text) (tokens_at text from)
+
+-- a filter of the code and the place behind it
+abbrev pub filter_seen : List ℕ → Filter × ℕ → Tree × List Placed
+filter_seen text x = (tree x.0, tokens_at text x.1)
 
 abbrev pub nothing_behind : Tree → List Placed → Result Tree FilterError
 nothing_behind f [] = Ok f

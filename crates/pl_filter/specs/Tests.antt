@@ -1,7 +1,7 @@
 -- How tests and filters are written.
 use Rattle.std.specs.Prelude.{ℕ, List, [], ◌++◌, codes, decimal}
 use Rattle.pl_filter.specs.Names.{text_of}
-use Rattle.pl_filter.specs.Trees.{Tree, Both, Either, Neither, Passes}
+use Rattle.pl_filter.specs.Trees.{Tree, Both, Either, Negated, Passes}
 use Rattle.pl_filter.specs.declared.filter.Test.{Test}
 use Rattle.pl_filter.specs.declared.filter.Test.TheVariants as test
 
@@ -45,5 +45,5 @@ value_text (test.After n) = decimal n
 abbrev pub printed : Tree → List ℕ
 printed (Both f g) = codes "(and " ++ printed f ++ codes " " ++ printed g ++ codes ")"
 printed (Either f g) = codes "(or " ++ printed f ++ codes " " ++ printed g ++ codes ")"
-printed (Neither f) = codes "(not " ++ printed f ++ codes ")"
+printed (Negated f) = codes "(not " ++ printed f ++ codes ")"
 printed (Passes t) = front_of t ++ value_text t

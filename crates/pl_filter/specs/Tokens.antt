@@ -14,7 +14,8 @@ pub record Placed : Type 0 where
 abbrev pub placed : ℕ → Token → Placed
 placed at token = record { at = at; token = token }
 
--- A byte of a word joins the word that begins right behind it, so that a word is a longest run of its bytes.
+-- A byte of a word joins the word that begins right behind it, so that a word is a longest run of
+-- its bytes.
 abbrev pub joined_to : ℕ → ℕ → Placed → Token → List Placed → List Placed
 joined_to at byte next (Word word) after =
     if next.at == at + 1 then placed at (Word (byte ∷ word)) ∷ after
@@ -26,7 +27,8 @@ abbrev pub joined : ℕ → ℕ → List Placed → List Placed
 joined at byte [] = placed at (Word (byte ∷ [])) ∷ []
 joined at byte (next ∷ after) = joined_to at byte next next.token after
 
--- the tokens of these bytes, the first of which stands at this place: 32 is a space, 40 and 41 are the parentheses
+-- The tokens of these bytes, the first of which stands at this place. Byte 32 is a space, and 40
+-- and 41 are the parentheses.
 abbrev pub tokens_from : ℕ → List ℕ → List Placed
 tokens_from at [] = []
 tokens_from at (byte ∷ bytes) =

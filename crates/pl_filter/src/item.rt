@@ -1,5 +1,6 @@
 //! What an item carries.
-//! PCI Express Base Specification 5.0, chapter 2 (TLP types), chapter 3 (DLLP types, LCRC and nullified TLPs).
+//! PCI Express Base Specification 5.0, chapter 2 (TLP types) and chapter 3 (DLLP types, LCRC and
+//! nullified TLPs).
 ghost use Rattle.std.specs.Prelude.{◌≡◌, ◌≤◌, length};
 ghost use Rattle.std.specs.Option.{option_map};
 ghost use Rattle.pl_capture.specs.Entry.{view, IsLawful};
@@ -15,8 +16,8 @@ use pl_dllp::{Decoded, Dllp};
 use pl_engine::{body, dllp_of, tlp_of};
 use pl_tlp::View;
 
-/// The name of an item: of a whole TLP its kind, `undefined` or `wrongsize`, of a DLLP its type, `other`,
-/// `badcrc` or `reserved`. A spoiled or nullified TLP and a link down have none.
+/// The name of an item: of a whole TLP its kind, `undefined` or `wrongsize`, of a DLLP its type,
+/// `other`, `badcrc` or `reserved`. A spoiled or nullified TLP and a link down have none.
 pub fn name_of(item: &Item) -> Option<Name>
     requires { IsLawful (view item.now) }
     ensures { result ≡ spec.item_name (view item.now) }

@@ -4,7 +4,6 @@
 mod error;
 mod filter;
 mod item;
-mod laws;
 mod meaning;
 mod name;
 mod parser;
@@ -15,7 +14,6 @@ mod word;
 pub use error::FilterError;
 pub use filter::{Filter, Test};
 pub use item::name_of;
-pub use laws::reads_back;
 pub use meaning::holds;
 pub use name::Name;
 pub use parser::parse;

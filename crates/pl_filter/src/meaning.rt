@@ -68,12 +68,13 @@ fn is_spoiled(item: &Item) -> bool
 }
 
 /// Whether an item has this name.
+#[tactic(auto, using(crate::proofs::Words::names_differ))]
 fn is_name(name: Name, item: &Item) -> bool
     requires { IsLawful (view item.now) }
     ensures { result ≡ spec.is_name name (item_name (view item.now)) }
 {
     match name_of(item) {
-        Some(other) => other.text().as_bytes() == name.text().as_bytes(),
+        Some(other) => other == name,
         None => false,
     }
 }

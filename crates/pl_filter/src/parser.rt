@@ -1,7 +1,8 @@
 //! From a text to its filter.
 ghost use Rattle.std.specs.Prelude.{◌≡◌, ◌≤◌, ◌≢◌, Err, IfOk, Result, length};
 ghost use Rattle.pl_filter.specs.Answers.{IsAnswer, answered};
-ghost use Rattle.pl_filter.specs.Reading.{Gives, read_close, read_filter, read_negation, read_operation, read_pair, reading, tokens_at};
+ghost use Rattle.pl_filter.specs.Reading.{Gives, reading, tokens_at, filter_seen};
+ghost use Rattle.pl_filter.specs.Reading.{close_in, filter_in, negation_in, operation_in, pair_in};
 ghost use Rattle.pl_filter.specs.Trees.{Tree, tree};
 
 use crate::error::FilterError;
@@ -15,12 +16,14 @@ const MOST_OPEN: u8 = 32;
 
 /// The filter of a text. The text is judged from the left.
 ///
-/// `Syntax` comes at the first byte of the first token that no filter has there, and at the length of a
-/// text that ends early; `TooDeep` comes at a parenthesis that would be the 33rd one open where a filter may
-/// have one. Places count bytes. `Memory` may come in place of a filter or of a later refusal.
+/// `Syntax` comes at the first byte of the first token that no filter has there, and at the length
+/// of a text that ends early; `TooDeep` comes at a parenthesis that would be the 33rd one open
+/// where a filter may have one. Places count bytes. `Memory` may come in place of a filter or of a
+/// later refusal.
 pub fn parse(alloc: Global, text: &str) -> Result<Filter, FilterError>
     ensures right { answered result ≢ Err FilterError.Memory → IsAnswer text.now (answered result) }
-    ensures only { (a : Result Tree FilterError) → IsAnswer text.now a → answered result ≢ Err FilterError.Memory → answered result ≡ a }
+    ensures only { (a : Result Tree FilterError) → IsAnswer text.now a
+        → answered result ≢ Err FilterError.Memory → answered result ≡ a }
 {
     whole(alloc, text.as_bytes())
 }
@@ -36,7 +39,8 @@ fn whole(alloc: Global, text: &[u8]) -> Result<Filter, FilterError>
     }
 }
 
-/// The filter from this place on and the place behind it, where so many more parentheses may be opened.
+/// The filter from this place on and the place behind it, where so many more parentheses may be
+/// opened.
 #[cycle(parser)]
 fn filter_at(
     alloc: Global,
@@ -45,7 +49,7 @@ fn filter_at(
     left: u8,
 ) -> Result<(Filter, usize), FilterError>
     requires { from ≤ length text.now }
-    ensures read { Gives (λ x. (tree x.0, tokens_at text.now x.1)) result (read_filter (length text.now) left (tokens_at text.now from)) }
+    ensures read { Gives (filter_seen text.now) result (filter_in text.now left from) }
     ensures within { IfOk result (λ x. x.1 ≤ length text.now) }
 {
     let Some(next) = next_token(text, from) else {
@@ -72,7 +76,7 @@ fn operation_at(
     left: u8,
 ) -> Result<(Filter, usize), FilterError>
     requires { from ≤ length text.now }
-    ensures read { Gives (λ x. (tree x.0, tokens_at text.now x.1)) result (read_operation (length text.now) (read_filter (length text.now) left) (tokens_at text.now from)) }
+    ensures read { Gives (filter_seen text.now) result (operation_in text.now left from) }
     ensures within { IfOk result (λ x. x.1 ≤ length text.now) }
 {
     let Some(next) = next_token(text, from) else {
@@ -105,7 +109,7 @@ fn negation_at(
     left: u8,
 ) -> Result<(Filter, usize), FilterError>
     requires { from ≤ length text.now }
-    ensures read { Gives (λ x. (tree x.0, tokens_at text.now x.1)) result (read_negation (length text.now) (read_filter (length text.now) left) (tokens_at text.now from)) }
+    ensures read { Gives (filter_seen text.now) result (negation_in text.now left from) }
     ensures within { IfOk result (λ x. x.1 ≤ length text.now) }
 {
     let (inner, end) = filter_at(alloc, text, from, left)?;
@@ -123,7 +127,8 @@ fn pair_at(
     left: u8,
 ) -> Result<(Box<Filter>, Box<Filter>, usize), FilterError>
     requires { from ≤ length text.now }
-    ensures read { Gives (λ x. (tree x.0.value, tree x.1.value, tokens_at text.now x.2)) result (read_pair (length text.now) (read_filter (length text.now) left) (tokens_at text.now from)) }
+    ensures read { Gives (λ x. (tree x.0.value, tree x.1.value, tokens_at text.now x.2)) result
+        (pair_in text.now left from) }
     ensures within { IfOk result (λ x. x.2 ≤ length text.now) }
 {
     let (first, end) = filter_at(alloc, text, from, left)?;
@@ -136,7 +141,7 @@ fn pair_at(
 #[tactic(auto, unfolding(crate::specs::Reading::read_close))]
 fn close_at(text: &[u8], from: usize) -> Result<usize, FilterError>
     requires { from ≤ length text.now }
-    ensures read { Gives (λ x. tokens_at text.now x) result (read_close (length text.now) (tokens_at text.now from)) }
+    ensures read { Gives (tokens_at text.now) result (close_in text.now from) }
     ensures within { IfOk result (λ x. x ≤ length text.now) }
 {
     match next_token(text, from) {

@@ -10,12 +10,14 @@ use crate::filter::{Filter, Test};
 use itoa::Buffer;
 use std::alloc::{AllocError, Global};
 
-/// The one printed text of a filter: one space between parts, none beside the edge of a parenthesis, and
-/// numbers without leading zeros. Its filter is this one where at most 32 parentheses are open at once.
+/// The one printed text of a filter: one space between parts, none beside the edge of a
+/// parenthesis, and numbers without leading zeros. Its filter is this one where at most 32
+/// parentheses are open at once.
 #[tactic(auto, using(crate::proofs::Printed::printed_answer))]
 pub fn print(alloc: Global, f: &Filter) -> Result<String, AllocError>
     ensures text { IfOk result (λ text. string_bytes text ≡ printed (tree f.now)) }
-    ensures reads_back { nesting (tree f.now) ≤ 32 → IfOk result (λ text. IsAnswer (string_bytes text) (Ok (tree f.now))) }
+    ensures reads_back { nesting (tree f.now) ≤ 32
+        → IfOk result (λ text. IsAnswer (string_bytes text) (Ok (tree f.now))) }
 {
     let mut text = String::new(alloc);
     push_filter(&mut text, f)?;
@@ -53,7 +55,8 @@ fn push_filter(text: &mut String, f: &Filter) -> Result<(), AllocError>
 
 /// Appends a test.
 fn push_test(text: &mut String, test: Test) -> Result<(), AllocError>
-    ensures text { OnOk result (string_bytes text.new ≡ string_bytes text.old ++ (front_of test ++ value_text test)) }
+    ensures text { OnOk result
+        (string_bytes text.new ≡ string_bytes text.old ++ (front_of test ++ value_text test)) }
     ensures fits { NumberFits test }
 {
     text.push_str(test.front())?;

@@ -183,6 +183,27 @@ fn a_filter_has_one_printed_text(rt: HostRuntime) -> Result<(), Fail> {
 }
 
 #[test]
+fn the_filters_of_the_document_are_filters(rt: HostRuntime) -> Result<(), Fail> {
+    for text in [
+        "(and up kind=Nak)",
+        "(and time>3999999 time<5000001)",
+        "(and tag=7 requester=256)",
+        "spoiled",
+        "(or spoiled nullified)",
+        "(and down number=2048)",
+        "(or kind=InitFC1-P (or kind=InitFC1-NP kind=InitFC1-Cpl))",
+        "(and down (or kind=UpdateFC-P kind=UpdateFC-NP))",
+        "(or kind=Cpl kind=CplLk)",
+        "(and tlp (not (or tc=0 (or spoiled nullified))))",
+        "(not (or kind=Ack (or kind=UpdateFC-P (or kind=UpdateFC-NP kind=UpdateFC-Cpl))))",
+    ] {
+        let f = parse(rt.alloc(), text)?;
+        assert_eq!(rt; print(rt.alloc(), &f)?.as_str(), text);
+    }
+    Ok(())
+}
+
+#[test]
 fn a_tlp_is_found_by_its_fields(rt: HostRuntime) -> Result<(), Fail> {
     let read = tlp(&READ, false).ok_or("a read")?;
     judge(

@@ -1,5 +1,6 @@
 //! The tokens of the text of a filter: parentheses and words, which spaces part.
-ghost use Rattle.std.specs.Prelude.{◌≡◌, ◌+◌, ◌≤◌, ◌<◌, ◌∷◌, [], IfNone, IfSome, drop, length, slice_index, ◌≢◌};
+ghost use Rattle.std.specs.Prelude.{◌≡◌, ◌≢◌, ◌+◌, ◌≤◌, ◌<◌, ◌∷◌, [], IfNone, IfSome};
+ghost use Rattle.std.specs.Prelude.{drop, length, slice_index};
 ghost use Rattle.pl_filter.specs.Lexemes.{seen};
 ghost use Rattle.pl_filter.specs.Reading.{run_length, tokens_at};
 ghost use Rattle.pl_filter.specs.Reading as spec;
@@ -27,7 +28,8 @@ pub(crate) struct Found<'a> {
 pub(crate) fn next_token(text: &[u8], from: usize) -> Option<Found<'_>>
     requires { from ≤ length text.now }
     ensures none { IfNone result (tokens_at text.now from ≡ []) }
-    ensures some { IfSome result (λ x. tokens_at text.now from ≡ placed x.at (seen x.token) ∷ tokens_at text.now x.end) }
+    ensures some { IfSome result (λ x.
+        tokens_at text.now from ≡ placed x.at (seen x.token) ∷ tokens_at text.now x.end) }
     ensures within { IfSome result (λ x. x.end ≤ length text.now) }
 {
     let at = spaces_end(text, from);
@@ -55,7 +57,8 @@ fn spaces_end(text: &[u8], from: usize) -> usize
 fn token_at(text: &[u8], at: usize) -> Found<'_>
     requires within { at < length text.now }
     requires no_space { slice_index text.now at ≢ 32 }
-    ensures token { tokens_at text.now at ≡ placed result.at (seen result.token) ∷ tokens_at text.now result.end }
+    ensures token { tokens_at text.now at
+        ≡ placed result.at (seen result.token) ∷ tokens_at text.now result.end }
     ensures within { result.end ≤ length text.now }
 {
     match text[at] {

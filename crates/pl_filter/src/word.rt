@@ -1,6 +1,7 @@
 //! The words of a filter: operators and tests.
 ghost use Rattle.std.specs.Prelude.{◌≡◌, length};
-ghost use Rattle.pl_filter.specs.Reading.{like, number_in, operator_in, operator_text, test_in, with_value, without_value};
+ghost use Rattle.pl_filter.specs.Reading.{like, number_in, operator_in, operator_text};
+ghost use Rattle.pl_filter.specs.Reading.{test_in, with_value, without_value};
 ghost use Rattle.pl_filter.specs.Reading as spec;
 ghost use Rattle.pl_filter.specs.Tests.{front_of};
 
