@@ -1,0 +1,9 @@
+pub mod Words
+pub mod Stack
+pub mod Judge
+pub mod Descent
+pub mod Unique
+pub mod Lexing
+pub mod Steps
+pub mod Printed
+pub mod TypeNames

@@ -1,0 +1,11 @@
+pub mod Names
+pub mod Items
+pub mod Meaning
+pub mod Trees
+pub mod Tests
+pub mod Fitting
+pub mod Tokens
+pub mod Grammar
+pub mod Answers
+pub mod Lexemes
+pub mod Reading
