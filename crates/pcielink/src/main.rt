@@ -1,16 +1,14 @@
-//! `pcielink`, a passive protocol analyser for PCI Express links. It makes the real objects, passes the words of
-//! the command line to `run` and ends with its answer.
+//! `pcielink`, a passive protocol analyser for PCI Express links. It makes the real objects, passes
+//! the words of the command line to `run` and ends with its answer.
 #![tactic(auto)]
 
 use pl_cli::run;
+use pl_cli::status::NO_MEMORY;
 use pl_io::{FileShelf, StdSink};
 use std::env::args;
 use std::io::{self, ErrorKind};
 use std::process::ExitCode;
 use std::rt::Runtime;
-
-/// The status where memory is wanting for the words.
-const NO_MEMORY: u8 = 9;
 
 fn main(rt: HostRuntime) -> ExitCode {
     let status = match words(&rt) {
