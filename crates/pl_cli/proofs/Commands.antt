@@ -13,7 +13,8 @@ use Rattle.pl_capture.specs.Reading.{Reading, Ending, reading, Ended, Bad, Open}
 use Rattle.pl_io.specs.Faults.{Rose}
 use Rattle.pl_profile.specs.declared.profile.Profile.{Profile}
 use Rattle.pl_engine.specs.Verdicts.{refusal, verdicts_after}
-use Rattle.pl_cli.specs.Output.{Cause, AtEnd, AtRefusal, AtLimit, AtFault, How, Whole, TooLong, Fault, cause, cause_of, cause_of_ending, cause_status, how_of, limit, status, status_of, stop_status, verdicts_of}
+use Rattle.pl_engine.specs.Judged.{judged_verdicts}
+use Rattle.pl_cli.specs.Output.{Cause, AtEnd, AtRefusal, AtLimit, AtFault, How, Whole, TooLong, Fault, cause, cause_of, cause_of_ending, cause_status, how_of, limit, status, status_of, stop_status}
 use Rattle.pl_cli.specs.Words.{IsUnrisen, RunsCleanly}
 use Rattle.pl_cli.proofs.Lists.{accepted_all}
 
@@ -72,7 +73,7 @@ pub clean_file : (p : Profile) (file : List ℕ) → status_of p file ≡ 0 → 
 unfolding status
 clean_file p file h =
     let r : Reading = reading (take limit file) in
-    let e = at_end (length (verdicts_of p r)) (cause p r (how_of file)) h in
+    let e = at_end (length (judged_verdicts p r)) (cause p r (how_of file)) h in
     let n = nothing_refused (refusal p [] r.items) r.ending (how_of file) e.0 in
     let size : length file ≤ limit = whole_file file n.2 in
     let same : reading (take limit file) ≡ reading file = ap reading (take_all limit file size) in
@@ -81,7 +82,7 @@ clean_file p file h =
       ended = ap (λ (x : Reading). x.ending) (sym same) ∙ n.1;
       judged = ap (λ (x : Reading). refusal p [] x.items) (sym same) ∙ n.0;
       clean = ap (λ (x : Reading). verdicts_after p [] x.items) (sym same)
-          ∙ ap (verdicts_after p []) (sym (accepted_all p [] r.items n.0)) ∙ none_left (verdicts_of p r) e.1;
+          ∙ ap (verdicts_after p []) (sym (accepted_all p [] r.items n.0)) ∙ none_left (judged_verdicts p r) e.1;
     }
 
 -- Three words of which the first is `check` are its command.

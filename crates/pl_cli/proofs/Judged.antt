@@ -11,16 +11,17 @@ use Rattle.pl_io.proofs.Told.{plus-plus}
 use Rattle.pl_capture.specs.Entry.{Entry}
 use Rattle.pl_capture.specs.Reading.{Reading, Ending, reading, Ended, Bad, Open}
 use Rattle.pl_capture.proofs.Wholes.{reading_short}
+use Rattle.pl_engine.specs.declared.engine.Engine.{Engine}
 use Rattle.pl_engine.specs.declared.refused.Refused.{Refused}
-use Rattle.pl_engine.specs.Engine as engine
 use Rattle.pl_engine.specs.Events.{number_after}
 use Rattle.pl_engine.specs.Verdicts.{blocked, refusal, refuse, stop_of}
 use Rattle.pl_profile.specs.declared.profile.Profile.{Profile}
 use Rattle.pl_report.specs.Lines.{read_fault_text}
+use Rattle.pl_engine.specs.Judged.{judged_verdicts}
 use Rattle.pl_cli.specs.declared.judging.Judging.{Judging}
 use Rattle.pl_cli.specs.declared.judging.Ended as declared
 use Rattle.pl_cli.specs.declared.judging.Ended.TheVariants as ended
-use Rattle.pl_cli.specs.Output.{How, Whole, TooLong, Fault, cause_of, cause_of_ending, cause_status, cut, how_of, last_text, limit, lines, output, status, status_of, stop_status, verdicts_of}
+use Rattle.pl_cli.specs.Output.{How, Whole, TooLong, Fault, cause_of, cause_of_ending, cause_status, cut, how_of, last_text, limit, lines, output, status, status_of, stop_status}
 use Rattle.pl_cli.specs.Progress.{Tells, asked, tells, EndsAs, ShelfCause, Taken, TakenCut, is_fault, last_cause, verdicts_in}
 use Rattle.pl_cli.specs.Promise.{Answers, CaptureRead, IsFront, Judges, Opens, judged, unread}
 use Rattle.pl_cli.specs.Words.{IsJudged}
@@ -48,7 +49,7 @@ answers_text {T = T} {text} {text'} {status} {status'} {old} {new} {answer} t s 
     subst (λ (x : List ℕ). Answers T x status' old new answer) t (subst (λ (n : ℕ). Answers T text n old new answer) s a)
 
 -- where nothing more is told, what was read is the whole
-ends_untold : (p : Profile) (j : Judging) (k : engine.EngineKept) (w w1 : Tells) (rest : Option (List ℕ)) (e : declared.Ended) (read extra : List ℕ) →
+ends_untold : (p : Profile) (j : Judging) (k : Engine) (w w1 : Tells) (rest : Option (List ℕ)) (e : declared.Ended) (read extra : List ℕ) →
     EndsAs p e read extra rest j k w w1 → EndsAs p e read extra (Some []) j k w w1
 ends_untold p j k w w1 rest ended.Whole read extra h = (h.0, refl, h.2)
 ends_untold p j k w w1 rest ended.Fault read extra h = h
@@ -56,7 +57,7 @@ ends_untold p j k w w1 rest ended.TooLong read extra h = h
 ends_untold p j k w w1 rest (ended.Refused s) read extra h = h
 
 module _ {H O : Type 0} {S : shelf.Ghosts H} {T : sink.Ghosts O} {p : Profile} {capture : List ℕ} {old new : H} {out mid out' : O} {answer : ℕ} where
-  judges_file : {j : Judging} {k : engine.EngineKept} (e : declared.Ended) (bytes : List ℕ) →
+  judges_file : {j : Judging} {k : Engine} (e : declared.Ended) (bytes : List ℕ) →
       Finishes p bytes j k (last_cause e j.reader) (tells T out) (tells T mid) →
       CaptureRead S capture bytes old new → T.faults mid ≡ T.faults out →
       Answers T (last_text j.items j.verdicts (last_cause e j.reader)) (cause_status j.verdicts (last_cause e j.reader)) mid out' answer →
@@ -65,7 +66,7 @@ module _ {H O : Type 0} {S : shelf.Ghosts H} {T : sink.Ghosts O} {p : Profile} {
       judged bytes read (answers_text (sym f.text) (sym f.status) (answers_behind f.before f.written f.room_left kept a))
 
   -- no fault of the shelf came
-  judges_fine : {j : Judging} {k : engine.EngineKept} (e : declared.Ended) →
+  judges_fine : {j : Judging} {k : Engine} (e : declared.Ended) →
       Taken p e j k (tells T out) (tells T mid) (asked S capture old new) →
       is_fault e ≡ false → Opens S capture old new → S.faults new ≡ S.faults old → T.faults mid ≡ T.faults out →
       Answers T (last_text j.items j.verdicts (last_cause e j.reader)) (cause_status j.verdicts (last_cause e j.reader)) mid out' answer →
@@ -88,7 +89,7 @@ module _ {H O : Type 0} {S : shelf.Ghosts H} {T : sink.Ghosts O} {p : Profile} {
           judges_file e bytes (finishes bytes t.read t.extra [] e (ends_untold p j k (tells T out) (tells T mid) (S.rest new) e t.read t.extra t.ends) t.size refl fine)
           (record { opens = opens; is_open = is_open; is_file = λ told. absurd (false_is_true (sym untold ∙ told)); kept = kept }) out-kept a
 
-  pub judges : {j : Judging} {k : engine.EngineKept} (e : declared.Ended) →
+  pub judges : {j : Judging} {k : Engine} (e : declared.Ended) →
       Taken p e j k (tells T out) (tells T mid) (asked S capture old new) →
       Opens S capture old new → ShelfCause e (S.faults old) (S.faults new) → (S.sure old ≡ true → IsSome (S.file old capture) → is_fault e ≡ false) →
       T.faults mid ≡ T.faults out →
@@ -114,7 +115,7 @@ module _ {H O : Type 0} {S : shelf.Ghosts H} {T : sink.Ghosts O} {p : Profile} {
 
 module _ {H O : Type 0} {S : shelf.Ghosts H} {T : sink.Ghosts O} {p : Profile} {capture : List ℕ} {old new : H} {out out' : O} {answer : ℕ} where
   -- the sink failed within the lines of an item
-  pub judges_lost : {k : engine.EngineKept} →
+  pub judges_lost : {k : Engine} →
       TakenCut p k (tells T out) (tells T out') (asked S capture old new) →
       Opens S capture old new → S.is_open new ≡ true → S.faults new ≡ S.faults old → Rose (T.faults out) (T.faults out') → answer ≡ 8 →
       Judges S T p capture old new out out' answer
@@ -185,7 +186,7 @@ how_no_fault false h = cc
 pub judged_status : (p : Profile) (file : List ℕ) → IsJudged (status_of p file)
 unfolding status
 judged_status p file =
-    cause_judged (length (verdicts_of p (reading (take limit file)))) (take limit file) (refusal p [] (reading (take limit file)).items) (how_of file)
+    cause_judged (length (judged_verdicts p (reading (take limit file)))) (take limit file) (refusal p [] (reading (take limit file)).items) (how_of file)
     (refusal_known p [] (reading (take limit file)).items) (how_no_fault _)
 
 -- ---- a capture of which nothing was read

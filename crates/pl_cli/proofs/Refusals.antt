@@ -7,13 +7,15 @@ use Rattle.pl_io.proofs.Told.{plus-plus}
 use Rattle.pl_capture.specs.Entry.{Entry}
 use Rattle.pl_capture.specs.Reading.{Reading, Ending, reading, Bad}
 use Rattle.pl_profile.specs.declared.profile.Profile.{Profile}
+use Rattle.pl_engine.specs.declared.engine.Engine.{Engine}
 use Rattle.pl_engine.specs.Engine as engine
 use Rattle.pl_engine.specs.declared.refused.Refused.{Refused}
 use Rattle.pl_engine.specs.Events.{number_after}
 use Rattle.pl_engine.specs.Verdicts.{blocked, history_after, refusal, refuse, verdicts_after, verdicts_at}
 use Rattle.pl_report.specs.Lines.{stop_text}
+use Rattle.pl_engine.specs.Judged.{judged_items}
 use Rattle.pl_cli.specs.declared.judging.Judging.{Judging}
-use Rattle.pl_cli.specs.Output.{Cause, How, cause_of_ending, items_judged, lines, status, stop_status, text}
+use Rattle.pl_cli.specs.Output.{Cause, How, cause_of_ending, lines, status, stop_status, text}
 use Rattle.pl_cli.specs.Progress.{verdicts_in, SoFar, RefusedIn, CutIn, Blocks, Loses, LostAtItem, Tells}
 use Rattle.pl_cli.proofs.Known.{engine_known, reader_known}
 use Rattle.pl_cli.proofs.Lists.{accepted_all, refusal-append}
@@ -24,7 +26,7 @@ pub record Prefix (bytes : List ℕ) : Type 0 where
   pub items : (more : List ℕ) → (tail : List Entry) × ((reading (bytes ++ more)).items ≡ (reading bytes).items ++ tail)
 
 -- the reader refuses a record
-pub reader_refuses : {p : Profile} {k : engine.EngineKept} {w w1 : Tells} {j : Judging} (before bytes : List ℕ) (s : Stop) →
+pub reader_refuses : {p : Profile} {k : Engine} {w w1 : Tells} {j : Judging} (before bytes : List ℕ) (s : Stop) →
     SoFar p before j k w w1 → (reading bytes).items ≡ (reading before).items → (reading bytes).ending ≡ Bad s →
     ((more : List ℕ) → reading (bytes ++ more) ≡ reading bytes) → RefusedIn p bytes s k w w1
 reader_refuses {p} {k} {w} {w1} before bytes s f same bad stays =
@@ -43,13 +45,13 @@ reader_refuses {p} {k} {w} {w1} before bytes s f same bad stays =
           ap (λ (x : Reading). status p x how) (stays more) ∙ (all_judged p (reading bytes) how none).1
           ∙ ap (λ (e : Ending). status_by p (reading bytes).items (cause_of_ending e how)) bad;
       engine_stands = λ more. subst (λ (xs : List Entry). engine.StandsFor k (history_after [] xs))
-          (sym (ap (items_judged p) (stays more) ∙ accepted_all p [] (reading bytes).items none ∙ same)) f.engine_stands;
+          (sym (ap (judged_items p) (stays more) ∙ accepted_all p [] (reading bytes).items none ∙ same)) f.engine_stands;
       lines_are = λ more. sym (ap (λ (xs : List Entry). lines (verdicts_after p [] xs))
-          (ap (items_judged p) (stays more) ∙ accepted_all p [] (reading bytes).items none ∙ same));
+          (ap (judged_items p) (stays more) ∙ accepted_all p [] (reading bytes).items none ∙ same));
     }
 
 -- the engine refuses the item that ends these bytes
-pub engine_refuses : {p : Profile} {k k' : engine.EngineKept} {w w1 w2 : Tells} {j : Judging} (before bytes : List ℕ) (x : Entry) (s : Stop) →
+pub engine_refuses : {p : Profile} {k k' : Engine} {w w1 w2 : Tells} {j : Judging} (before bytes : List ℕ) (x : Entry) (s : Stop) →
     SoFar p before j k w w1 → (reading bytes).items ≡ (reading before).items ++ x ∷ [] → Prefix bytes →
     Blocks (history_after [] (reading before).items) x s k k' w1 w2 → RefusedIn p bytes s k' w w2
 engine_refuses {p} {k} {k'} {w} {w1} {w2} before bytes x s f more prefix b =
@@ -67,12 +69,12 @@ engine_refuses {p} {k} {k'} {w} {w1} {w2} before bytes x s f more prefix b =
       same_text = λ m how. (one m how).1 ∙ ap (λ (t : Stop). lines (verdicts_in p before) ++ stop_text t) (sym b.stop_is);
       same_status = λ m how. (one m how).2 ∙ ap stop_status (sym b.stop_is);
       engine_stands = λ m. subst (λ (xs : List Entry). engine.StandsFor k' (history_after [] xs)) (sym (one m Rattle.pl_cli.specs.Output.Whole).0)
-          (subst (λ (e : engine.EngineKept). engine.StandsFor e past) (sym b.same_engine) f.engine_stands);
+          (subst (λ (e : Engine). engine.StandsFor e past) (sym b.same_engine) f.engine_stands);
       lines_are = λ m. sym (ap (λ (xs : List Entry). lines (verdicts_after p [] xs)) (one m Rattle.pl_cli.specs.Output.Whole).0);
     }
 
 -- bytes behind a refusal change nothing
-pub refused_before : {p : Profile} {s : Stop} {k : engine.EngineKept} {w w1 : Tells} (bytes rest : List ℕ) →
+pub refused_before : {p : Profile} {s : Stop} {k : Engine} {w w1 : Tells} (bytes rest : List ℕ) →
     RefusedIn p bytes s k w w1 → RefusedIn p (bytes ++ rest) s k w w1
 refused_before {p} {s} {k} bytes rest f =
     let group : (more : List ℕ) → reading ((bytes ++ rest) ++ more) ≡ reading (bytes ++ (rest ++ more)) = λ more. ap reading (append_assoc bytes rest more) in
@@ -83,8 +85,8 @@ refused_before {p} {s} {k} bytes rest f =
       room_left = f.room_left;
       same_text = λ more how. ap (λ (x : Reading). text p x how) (group more) ∙ f.same_text (rest ++ more) how;
       same_status = λ more how. ap (λ (x : Reading). status p x how) (group more) ∙ f.same_status (rest ++ more) how;
-      engine_stands = λ more. subst (λ (x : Reading). engine.StandsFor k (history_after [] (items_judged p x))) (sym (group more)) (f.engine_stands (rest ++ more));
-      lines_are = λ more. f.lines_are (rest ++ more) ∙ sym (ap (λ (x : Reading). lines (verdicts_after p [] (items_judged p x))) (group more));
+      engine_stands = λ more. subst (λ (x : Reading). engine.StandsFor k (history_after [] (judged_items p x))) (sym (group more)) (f.engine_stands (rest ++ more));
+      lines_are = λ more. f.lines_are (rest ++ more) ∙ sym (ap (λ (x : Reading). lines (verdicts_after p [] (judged_items p x))) (group more));
     }
 
 -- room for more is room for less
@@ -103,7 +105,7 @@ part_behind w w1 w2 before here rest h part = record {
 }
 
 -- the sink fails within the lines of the item that ends these bytes
-pub sink_fails : {p : Profile} {k k' : engine.EngineKept} {w w1 w2 : Tells} {j : Judging} (before bytes : List ℕ) (x : Entry) →
+pub sink_fails : {p : Profile} {k k' : Engine} {w w1 w2 : Tells} {j : Judging} (before bytes : List ℕ) (x : Entry) →
     SoFar p before j k w w1 → (reading bytes).items ≡ (reading before).items ++ x ∷ [] → Prefix bytes →
     Loses (history_after [] (reading before).items) x k k' w1 w2 → CutIn p bytes k' w w2
 sink_fails {p} {k} {k'} {w} {w1} {w2} before bytes x f more prefix l =
@@ -135,7 +137,7 @@ sink_fails {p} {k} {k'} {w} {w1} {w2} before bytes x f more prefix l =
     enough : (a b c : List ℕ) → length a + length b ≤ length (a ++ (b ++ c))
     enough a b c = omega (arith, length-append a (b ++ c), length-append b c)
 
-pub cut_before : {p : Profile} {k : engine.EngineKept} {w w1 : Tells} (bytes rest : List ℕ) → CutIn p bytes k w w1 → CutIn p (bytes ++ rest) k w w1
+pub cut_before : {p : Profile} {k : Engine} {w w1 : Tells} (bytes rest : List ℕ) → CutIn p bytes k w w1 → CutIn p (bytes ++ rest) k w w1
 cut_before {p} {k} {w} {w1} bytes rest f =
     let group : (more : List ℕ) (how : How) → text p (reading ((bytes ++ rest) ++ more)) how ≡ text p (reading (bytes ++ (rest ++ more))) how =
     λ more how. ap (λ (l : List ℕ). text p (reading l) how) (append_assoc bytes rest more) in

@@ -8,6 +8,7 @@ use Rattle.pl_capture.specs.Entry.{Entry}
 use Rattle.pl_capture.specs.Reading.{reading, Bad}
 use Rattle.pl_capture.specs.Standing as reader
 use Rattle.pl_profile.specs.declared.profile.Profile.{Profile}
+use Rattle.pl_engine.specs.declared.engine.Engine.{Engine}
 use Rattle.pl_engine.specs.Engine as engine
 use Rattle.pl_engine.specs.Verdicts.{blocked, history_after, refusal, verdicts_after, verdicts_at}
 use Rattle.pl_cli.specs.declared.judging.Judging.{Judging}
@@ -17,7 +18,7 @@ use Rattle.pl_cli.proofs.Lists.{history-append, refusal-append, verdicts-append}
 use Rattle.pl_cli.proofs.Texts.{lines-append}
 
 -- by an answer that gave no item
-pub so_far_on : {p : Profile} {k : engine.EngineKept} {w w1 : Tells} {j : Judging} (before bytes : List ℕ) (j' : Judging) →
+pub so_far_on : {p : Profile} {k : Engine} {w w1 : Tells} {j : Judging} (before bytes : List ℕ) (j' : Judging) →
     SoFar p before j k w w1 → (reading bytes).items ≡ (reading before).items → reader.StandsFor j'.reader bytes →
     ((s : Stop) → (reading bytes).ending ≡ Bad s → ⊥) → j'.items ≡ j.items → j'.verdicts ≡ j.verdicts → SoFar p bytes j' k w w1
 so_far_on {p} {k} {w} {w1} {j} before bytes j' f same stands goes i v =
@@ -35,7 +36,7 @@ so_far_on {p} {k} {w} {w1} {j} before bytes j' f same stands goes i v =
     }
 
 -- by an item that was judged
-pub so_far_item : {p : Profile} {k k' : engine.EngineKept} {w w1 w2 : Tells} {j j' : Judging} (before bytes : List ℕ) (x : Entry) (j1 : Judging) →
+pub so_far_item : {p : Profile} {k k' : Engine} {w w1 w2 : Tells} {j j' : Judging} (before bytes : List ℕ) (x : Entry) (j1 : Judging) →
     SoFar p before j k w w1 → (reading bytes).items ≡ (reading before).items ++ x ∷ [] → reader.StandsFor j'.reader bytes →
     ((s : Stop) → (reading bytes).ending ≡ Bad s → ⊥) → j1.items ≡ j.items → j1.verdicts ≡ j.verdicts →
     Accepts (history_after [] (reading before).items) x j1 j' k k' w1 w2 → SoFar p bytes j' k' w w2

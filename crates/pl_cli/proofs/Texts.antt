@@ -10,7 +10,8 @@ use Rattle.pl_engine.specs.declared.refused.Refused.{Refused}
 use Rattle.pl_engine.specs.Events.{number_after}
 use Rattle.pl_engine.specs.Verdicts.{accept, accepted, blocked, history_after, refusal, refuse, stop_of, verdicts_after, verdicts_at}
 use Rattle.pl_report.specs.Lines.{stop_text, verdict_text}
-use Rattle.pl_cli.specs.Output.{How, Cause, AtRefusal, cause_of, cause_of_ending, cause_status, items_judged, last_text, lines, status, stop_status, text}
+use Rattle.pl_engine.specs.Judged.{judged_items}
+use Rattle.pl_cli.specs.Output.{How, Cause, AtRefusal, cause_of, cause_of_ending, cause_status, last_text, lines, status, stop_status, text}
 use Rattle.pl_cli.proofs.Lists.{accepted-append, accepted_all, refusal-append, verdicts-append}
 
 pub lines-append : (a b : List Verdict) → lines (a ++ b) ≡ lines a ++ lines b
@@ -23,7 +24,7 @@ text_by p xs c = lines (verdicts_after p [] xs) ++ last_text (length xs) (length
 abbrev pub status_by : Profile → List Entry → Cause → ℕ
 status_by p xs c = cause_status (length (verdicts_after p [] xs)) c
 
-by_parts : (p : Profile) (r : Reading) (how : How) (xs : List Entry) (c : Cause) → items_judged p r ≡ xs → cause_of (refusal p [] r.items) r.ending how ≡ c →
+by_parts : (p : Profile) (r : Reading) (how : How) (xs : List Entry) (c : Cause) → judged_items p r ≡ xs → cause_of (refusal p [] r.items) r.ending how ≡ c →
     (text p r how ≡ text_by p xs c) × (status p r how ≡ status_by p xs c)
 unfolding text status
 by_parts p r how xs c h k = (
@@ -39,13 +40,13 @@ all_judged p r how h = by_parts p r how r.items _ (accepted_all p [] r.items h) 
 -- where it refuses the item behind these
 pub one_refused : (p : Profile) (r : Reading) (how : How) (xs : List Entry) (x : Entry) (tail : List Entry) (refused : Refused) →
     r.items ≡ xs ++ x ∷ tail → refusal p [] xs ≡ None → blocked p (history_after [] xs) x ≡ Some refused →
-    (items_judged p r ≡ xs)
+    (judged_items p r ≡ xs)
     × (text p r how ≡ lines (verdicts_after p [] xs) ++ stop_text (stop_of refused (number_after (history_after [] xs))))
     × (status p r how ≡ stop_status (stop_of refused (number_after (history_after [] xs))))
 one_refused p r how xs x tail refused i h b =
     let past : List Entry = history_after [] xs in
     let s : Stop = stop_of refused (number_after past) in
-    let judged : items_judged p r ≡ xs =
+    let judged : judged_items p r ≡ xs =
     ap (accepted p []) i ∙ accepted-append p [] xs (x ∷ tail) h
     ∙ ap (λ o. xs ++ accept o x (accepted p (x ∷ past) tail)) b ∙ append-nil xs in
     let refusal_is : refusal p [] r.items ≡ Some s =
@@ -61,7 +62,7 @@ pub one_more : (p : Profile) (r : Reading) (how : How) (xs : List Entry) (x : En
 one_more p r how xs x tail i h b =
     let past : List Entry = history_after [] xs in
     let more : List Entry = accepted p (x ∷ past) tail in
-    let judged : items_judged p r ≡ xs ++ (x ∷ more) =
+    let judged : judged_items p r ≡ xs ++ (x ∷ more) =
     ap (accepted p []) i ∙ accepted-append p [] xs (x ∷ tail) h
     ∙ ap (λ o. xs ++ accept o x (accepted p (x ∷ past) tail)) b in
     let c : Cause = cause_of (refusal p [] r.items) r.ending how in

@@ -9,12 +9,14 @@ use Rattle.pl_capture.specs.Entry.{Entry}
 use Rattle.pl_capture.specs.Reading.{Reading, reading, Open}
 use Rattle.pl_capture.proofs.Wholes.{reading_short}
 use Rattle.pl_profile.specs.declared.profile.Profile.{Profile}
+use Rattle.pl_engine.specs.declared.engine.Engine.{Engine}
 use Rattle.pl_engine.specs.Engine as engine
 use Rattle.pl_engine.specs.Verdicts.{accepted, history_after, refusal, verdicts_after}
+use Rattle.pl_engine.specs.Judged.{judged_items}
 use Rattle.pl_cli.specs.declared.judging.Judging.{Judging}
 use Rattle.pl_cli.specs.declared.judging.Ended as declared
 use Rattle.pl_cli.specs.declared.judging.Ended.TheVariants as ended
-use Rattle.pl_cli.specs.Output.{AtFault, Fault, cause, cause_status, cut, items_judged, last_text, limit, lines, output, status_of}
+use Rattle.pl_cli.specs.Output.{AtFault, Fault, cause, cause_status, cut, last_text, limit, lines, output, status_of}
 use Rattle.pl_cli.specs.Promise.{Answers, IsFront}
 use Rattle.pl_cli.specs.Progress.{Asked, Tells, tells, EndsAs, LostAtEnd, LostAtItem, ReadOf, RefusedIn, SoFar, Taken, TakenCut, is_fault, last_cause, nothing_judged, verdicts_in}
 use Rattle.pl_cli.proofs.Lists.{accepted_all}
@@ -52,7 +54,7 @@ was_opened true read e h fine = refl
 was_opened false read e h fine = absurd (false_is_true (sym fine ∙ (h refl).1))
 
 -- where no fault of the shelf came, what was taken of a told file is all that is judged
-pub taken_finishes : {p : Profile} {e : declared.Ended} {j : Judging} {k : engine.EngineKept} {w w1 : Tells} {at : Asked} →
+pub taken_finishes : {p : Profile} {e : declared.Ended} {j : Judging} {k : Engine} {w w1 : Tells} {at : Asked} →
     Taken p e j k w w1 at → (b : List ℕ) → at.told ≡ true → at.file ≡ Some b → is_fault e ≡ false →
     Finishes p b j k (last_cause e j.reader) w w1
 taken_finishes {p} {e} {j} {k} {w} {w1} {at = at} t b told_is file_is fine =
@@ -60,12 +62,12 @@ taken_finishes {p} {e} {j} {k} {w} {w1} {at = at} t b told_is file_is fine =
     let q = t.from_file told_is o in
     finishes b t.read t.extra q.0 e (subst (λ (x : Option (List ℕ)). EndsAs p e t.read t.extra x j k w w1) q.2 t.ends) t.size (some_same b _ _ file_is q.1) fine
 
-pub top_exact : {p : Profile} {e : declared.Ended} {j : Judging} {k : engine.EngineKept} {w w1 w2 : Tells} {at : Asked} (answer : ℕ) →
+pub top_exact : {p : Profile} {e : declared.Ended} {j : Judging} {k : Engine} {w w1 w2 : Tells} {at : Asked} (answer : ℕ) →
     Taken p e j k w w1 at →
     Closed w1 w2 (last_text j.items j.verdicts (last_cause e j.reader)) (cause_status j.verdicts (last_cause e j.reader)) answer →
     (is_fault e ≡ true → answer ≢ 8 → answer ≡ 7) →
     at.told ≡ true → (b : List ℕ) → at.file ≡ Some b → answer ≢ 7 → answer ≢ 8 →
-    (w2.written ≡ plus w.written (output p b)) × (answer ≡ status_of p b) × engine.StandsFor k (history_after [] (items_judged p (reading (take limit b))))
+    (w2.written ≡ plus w.written (output p b)) × (answer ≡ status_of p b) × engine.StandsFor k (history_after [] (judged_items p (reading (take limit b))))
 top_exact {p} {e} {j} {w = w} {w2 = w2} answer t cl f told_is b file_is n7 n8 =
     let fin = taken_finishes t b told_is file_is (not_fault e answer f n7 n8) in
     let last : List ℕ = last_text j.items j.verdicts (last_cause e j.reader) in
@@ -74,7 +76,7 @@ top_exact {p} {e} {j} {w = w} {w2 = w2} answer t cl f told_is b file_is n7 n8 =
     (written, (cl.done n8).1 ∙ sym fin.status, fin.engine_stands)
 
 -- what was read of a told file before a fault of the shelf
-fault_read : {p : Profile} {j : Judging} {k : engine.EngineKept} {w w1 : Tells} {at : Asked} →
+fault_read : {p : Profile} {j : Judging} {k : Engine} {w w1 : Tells} {at : Asked} →
     (t : Taken p ended.Fault j k w w1 at) → (b : List ℕ) → at.told ≡ true → at.file ≡ Some b → ReadOf b at.opened at.rest t.read
 fault_read {at = at} t b told_is file_is = record {
   from_file = λ o. sym file_is ∙ front_ahead (t.read ++ t.extra) at.file at.rest (t.from_file told_is o) ∙ ap (λ (l : List ℕ). ahead (t.read ++ l) at.rest) t.ends.0 ∙ ap (λ (l : List ℕ). ahead l at.rest) (append-nil t.read);
@@ -90,7 +92,7 @@ behind_lines w w1 w2 before last h part = record {
   written = part.written ∙ ap (λ (v : Option (List ℕ)). plus v part.part) h ∙ plus-plus w before part.part;
 }
 
-pub top_cut : {p : Profile} {j : Judging} {k : engine.EngineKept} {w w1 w2 : Tells} {at : Asked} (e : declared.Ended) (answer : ℕ) →
+pub top_cut : {p : Profile} {j : Judging} {k : Engine} {w w1 w2 : Tells} {at : Asked} (e : declared.Ended) (answer : ℕ) →
     Taken p e j k w w1 at →
     Closed w1 w2 (last_text j.items j.verdicts (last_cause e j.reader)) (cause_status j.verdicts (last_cause e j.reader)) answer →
     (answer ≡ 7 → is_fault e ≡ true) → at.told ≡ true → (b : List ℕ) → at.file ≡ Some b → answer ≡ 7 →
@@ -109,7 +111,7 @@ top_cut ended.TooLong answer t cl f told_is b file_is is7 = absurd (false_is_tru
 top_cut (ended.Refused s) answer t cl f told_is b file_is is7 = absurd (false_is_true (f is7))
 
 -- the sink failed within the last line behind these bytes
-so_far_lost : {p : Profile} {j : Judging} {k : engine.EngineKept} {w w1 : Tells} {now : Option (List ℕ)} (read last : List ℕ) →
+so_far_lost : {p : Profile} {j : Judging} {k : Engine} {w w1 : Tells} {now : Option (List ℕ)} (read last : List ℕ) →
     SoFar p read j k w w1 → Partly w1.written now last → LostAtEnd p (reading read).items k w.written now
 so_far_lost {p} {k = k} {w = w} {now = now} read last f part =
     let all : accepted p [] (reading read).items ≡ (reading read).items = accepted_all p [] (reading read).items f.accepted in
@@ -119,15 +121,15 @@ so_far_lost {p} {k = k} {w = w} {now = now} read last f part =
       part = subst (λ (v : Option (List ℕ)). Partly v now last) (f.written ∙ ap (λ (xs : List Entry). plus w.written (lines (verdicts_after p [] xs))) (sym all)) part;
     }
 
-refused_lost : {p : Profile} {k : engine.EngineKept} {w w1 : Tells} {now : Option (List ℕ)} (read last : List ℕ) (s : Stop) →
+refused_lost : {p : Profile} {k : Engine} {w w1 : Tells} {now : Option (List ℕ)} (read last : List ℕ) (s : Stop) →
     RefusedIn p read s k w w1 → Partly w1.written now last → LostAtEnd p (reading read).items k w.written now
 refused_lost {p} {k} {w} {now = now} read last s f part =
     let same : reading (read ++ []) ≡ reading read = ap reading (append-nil read) in
     record {
-      engine_stands = subst (λ (x : Reading). engine.StandsFor k (history_after [] (items_judged p x))) same (f.engine_stands []);
+      engine_stands = subst (λ (x : Reading). engine.StandsFor k (history_after [] (judged_items p x))) same (f.engine_stands []);
       last = last;
       part = subst (λ (v : Option (List ℕ)). Partly v now last)
-          (f.written ∙ ap (plus w.written) (f.lines_are [] ∙ ap (λ (x : Reading). lines (verdicts_after p [] (items_judged p x))) same)) part;
+          (f.written ∙ ap (plus w.written) (f.lines_are [] ∙ ap (λ (x : Reading). lines (verdicts_after p [] (judged_items p x))) same)) part;
     }
 
 -- what was seen past the most bytes that are judged isn't judged
@@ -136,7 +138,7 @@ front_judged read extra le (inl none) = ap (λ (l : List ℕ). take limit (read 
 front_judged read extra le (inr all) = take_at read extra limit all
 
 -- for which items the engine stands, where the sink failed within the last line
-pub top_lost_end : {p : Profile} {j : Judging} {k : engine.EngineKept} {w w1 w2 : Tells} {at : Asked} (e : declared.Ended) (answer : ℕ) →
+pub top_lost_end : {p : Profile} {j : Judging} {k : Engine} {w w1 w2 : Tells} {at : Asked} (e : declared.Ended) (answer : ℕ) →
     Taken p e j k w w1 at →
     Closed w1 w2 (last_text j.items j.verdicts (last_cause e j.reader)) (cause_status j.verdicts (last_cause e j.reader)) answer →
     at.told ≡ true → (b : List ℕ) → at.file ≡ Some b → answer ≡ 8 →
@@ -168,7 +170,7 @@ top_lost_end {p} {j} {k} {w} {w1} {w2} {at = at} e answer t cl told_is b file_is
     no_extra (ended.Refused s) faulty h = h.0
 
 -- or within those of an item
-pub top_lost_item : {p : Profile} {k : engine.EngineKept} {w w1 : Tells} {at : Asked} →
+pub top_lost_item : {p : Profile} {k : Engine} {w w1 : Tells} {at : Asked} →
     TakenCut p k w w1 at → at.opened ≡ true → at.told ≡ true → (b : List ℕ) → at.file ≡ Some b →
     (read : List ℕ) × ReadOf b at.opened at.rest read × (LostAtItem p (reading (take limit read)).items k w.written w1.written ⊎ LostAtEnd p (reading (take limit read)).items k w.written w1.written)
 top_lost_item {p} {k} {w} {w1} {at = at} t is_open told_is b file_is =
@@ -183,7 +185,7 @@ plus-nothing None = refl
 plus-nothing (Some bytes) = ap Some (sym (append-nil bytes))
 
 -- before anything is read
-pub so_far_nothing : {k : engine.EngineKept} {w : Tells} (j : Judging) → j ≡ nothing_judged → engine.StandsFor k [] → SoFar k.profile [] j k w w
+pub so_far_nothing : {k : Engine} {w : Tells} (j : Judging) → j ≡ nothing_judged → engine.StandsFor k [] → SoFar k.profile [] j k w w
 so_far_nothing {k} {w} j start stands = subst (λ (x : Judging). SoFar k.profile [] x k w w) (sym start) nothing
   where
     none : (reading []).items ≡ []

@@ -7,10 +7,10 @@ use Rattle.pl_base.specs.declared.stop.Stop.{Stop}
 use Rattle.pl_base.specs.declared.stop.Stop.TheVariants.{Malformed, Unsupported, Outstanding}
 use Rattle.pl_base.specs.declared.stop.Stop.TheVariants.{Unacknowledged, Memory}
 use Rattle.pl_base.specs.declared.verdict.Verdict.{Verdict}
-use Rattle.pl_capture.specs.Entry.{Entry}
 use Rattle.pl_capture.specs.Reading.{Reading, reading, Ending, Ended, Bad, Open}
 use Rattle.pl_profile.specs.declared.profile.Profile.{Profile}
-use Rattle.pl_engine.specs.Verdicts.{accepted, refusal, verdicts_after}
+use Rattle.pl_engine.specs.Judged.{judged_items, judged_verdicts}
+use Rattle.pl_engine.specs.Verdicts.{refusal}
 use Rattle.pl_cli.specs.declared.status.TheConstants.{BROKEN, CLEAN, LIMIT, MALFORMED, NO_MEMORY}
 use Rattle.pl_cli.specs.declared.status.TheConstants.{READ_FAULT, UNSUPPORTED}
 use Rattle.pl_report.specs.Lines.{verdict_text, closing_text, stop_text, length_text}
@@ -49,14 +49,7 @@ abbrev pub cause_of : Option Stop → Ending → How → Cause
 cause_of None ending how = cause_of_ending ending how
 cause_of (Some s) ending how = AtRefusal s
 
--- What is judged of a reading: the items up to the first that the engine refuses, their verdicts,
--- and the cause.
-abbrev pub items_judged : Profile → Reading → List Entry
-items_judged profile r = accepted profile [] r.items
-
-abbrev pub verdicts_of : Profile → Reading → List Verdict
-verdicts_of profile r = verdicts_after profile [] (items_judged profile r)
-
+-- why judging ends, of a reading that goes on so
 abbrev pub cause : Profile → Reading → How → Cause
 cause profile r how = cause_of (refusal profile [] r.items) r.ending how
 
@@ -86,12 +79,12 @@ cause_status verdicts AtFault = READ_FAULT
 -- what is written for a reading that goes on so, and what is answered
 unfoldable pub text : Profile → Reading → How → List ℕ
 text profile r how =
-    lines (verdicts_of profile r)
-    ++ last_text (length (items_judged profile r)) (length (verdicts_of profile r))
+    lines (judged_verdicts profile r)
+    ++ last_text (length (judged_items profile r)) (length (judged_verdicts profile r))
     (cause profile r how)
 
 unfoldable pub status : Profile → Reading → How → ℕ
-status profile r how = cause_status (length (verdicts_of profile r)) (cause profile r how)
+status profile r how = cause_status (length (judged_verdicts profile r)) (cause profile r how)
 
 -- so many bytes of a capture are judged
 abbrev pub limit : ℕ

@@ -15,16 +15,18 @@ use Rattle.pl_capture.specs.Standing as reader
 use Rattle.pl_capture.specs.declared.step.Step.{Step}
 use Rattle.pl_capture.specs.declared.step.Step.TheVariants as step
 use Rattle.pl_profile.specs.declared.profile.Profile.{Profile}
+use Rattle.pl_engine.specs.declared.engine.Engine.{Engine}
 use Rattle.pl_engine.specs.declared.refused.Refused.{Refused}
 use Rattle.pl_engine.specs.Engine as engine
 use Rattle.pl_engine.specs.Events.{number_after}
 use Rattle.pl_engine.specs.Verdicts.{accepted, blocked, history_after, refusal, stop_of}
 use Rattle.pl_engine.specs.Verdicts.{verdicts_after, verdicts_at}
+use Rattle.pl_engine.specs.Judged.{judged_items, judged_verdicts}
 use Rattle.pl_cli.specs.declared.judging.Judging.{Judging}
 use Rattle.pl_cli.specs.declared.judging.Ended.{Ended}
 use Rattle.pl_cli.specs.declared.judging.Ended.TheVariants as ended
-use Rattle.pl_cli.specs.Output.{Cause, AtEnd, AtRefusal, AtLimit, AtFault, How, items_judged, limit}
-use Rattle.pl_cli.specs.Output.{lines, status, stop_status, text, verdicts_of}
+use Rattle.pl_cli.specs.Output.{Cause, AtEnd, AtRefusal, AtLimit, AtFault, How, limit}
+use Rattle.pl_cli.specs.Output.{lines, status, stop_status, text}
 use Rattle.pl_cli.specs.Promise.{IsFront}
 use Rattle.pl_report.specs.Lines.{stop_text}
 
@@ -43,7 +45,7 @@ tells T out = record { written = T.written out; room = T.room out }
 -- All whole items of these bytes were judged, nothing is refused yet, and the lines are written.
 -- The sink was in the state `old` before.
 pub record SoFar (profile : Profile) (bytes : List ℕ) (judging : Judging)
-    (kept : engine.EngineKept) (old new : Tells) : Type 0 where
+    (kept : Engine) (old new : Tells) : Type 0 where
   pub profile_is : kept.profile ≡ profile
   pub reader_stands : reader.StandsFor judging.reader bytes
   pub goes_on : (s : Stop) → (reading bytes).ending ≡ Bad s → ⊥
@@ -56,7 +58,7 @@ pub record SoFar (profile : Profile) (bytes : List ℕ) (judging : Judging)
       HasRoom new.room k
 
 -- The capture is refused within these bytes: the lines before the refusal are written.
-pub record RefusedIn (profile : Profile) (bytes : List ℕ) (s : Stop) (kept : engine.EngineKept)
+pub record RefusedIn (profile : Profile) (bytes : List ℕ) (s : Stop) (kept : Engine)
     (old new : Tells) : Type 0 where
   pub known : stop_status s ≤ 6
   pub before : List ℕ
@@ -67,13 +69,13 @@ pub record RefusedIn (profile : Profile) (bytes : List ℕ) (s : Stop) (kept : e
   pub same_status : (more : List ℕ) (how : How) →
       status profile (reading (bytes ++ more)) how ≡ stop_status s
   pub engine_stands : (more : List ℕ) →
-      engine.StandsFor kept (history_after [] (items_judged profile (reading (bytes ++ more))))
+      engine.StandsFor kept (history_after [] (judged_items profile (reading (bytes ++ more))))
   pub lines_are : (more : List ℕ) →
-      before ≡ lines (verdicts_of profile (reading (bytes ++ more)))
+      before ≡ lines (judged_verdicts profile (reading (bytes ++ more)))
 
 -- The sink failed within the lines of one of these items: the engine stands for those up to this
 -- one, it included, and the lines of those before it were written.
-pub record LostAtItem (profile : Profile) (items : List Entry) (kept : engine.EngineKept)
+pub record LostAtItem (profile : Profile) (items : List Entry) (kept : Engine)
     (old new : Option (List ℕ)) : Type 0 where
   pub before : List Entry
   pub item : Entry
@@ -86,7 +88,7 @@ pub record LostAtItem (profile : Profile) (items : List Entry) (kept : engine.En
 
 -- The sink failed within the last line: the engine stands for those of these items that are judged,
 -- and their lines were written.
-pub record LostAtEnd (profile : Profile) (items : List Entry) (kept : engine.EngineKept)
+pub record LostAtEnd (profile : Profile) (items : List Entry) (kept : Engine)
     (old new : Option (List ℕ)) : Type 0 where
   pub engine_stands : engine.StandsFor kept (history_after [] (accepted profile [] items))
   pub last : List ℕ
@@ -95,7 +97,7 @@ pub record LostAtEnd (profile : Profile) (items : List Entry) (kept : engine.Eng
 
 -- The sink failed within the lines of these bytes: a part of the text was written, and the room was
 -- too small.
-pub record CutIn (profile : Profile) (bytes : List ℕ) (kept : engine.EngineKept) (old new : Tells)
+pub record CutIn (profile : Profile) (bytes : List ℕ) (kept : Engine) (old new : Tells)
     : Type 0 where
   pub at_item : (more : List ℕ) →
       LostAtItem profile (reading (bytes ++ more)).items kept old.written new.written
@@ -106,7 +108,7 @@ pub record CutIn (profile : Profile) (bytes : List ℕ) (kept : engine.EngineKep
 
 -- What an item leads to. It is judged, and its lines are written.
 pub record Accepts (past : List Entry) (x : Entry) (judging judging' : Judging)
-    (kept kept' : engine.EngineKept) (old new : Tells) : Type 0 where
+    (kept kept' : Engine) (old new : Tells) : Type 0 where
   pub profile_is : kept'.profile ≡ kept.profile
   pub allowed : blocked kept.profile past x ≡ None
   pub engine_stands : engine.StandsFor kept' (x ∷ past)
@@ -118,7 +120,7 @@ pub record Accepts (past : List Entry) (x : Entry) (judging judging' : Judging)
       HasRoom old.room (length (lines (verdicts_at kept.profile past x)) + k) → HasRoom new.room k
 
 -- Or the engine refuses it.
-pub record Blocks (past : List Entry) (x : Entry) (s : Stop) (kept kept' : engine.EngineKept)
+pub record Blocks (past : List Entry) (x : Entry) (s : Stop) (kept kept' : Engine)
     (old new : Tells) : Type 0 where
   pub same_engine : kept' ≡ kept
   pub refused : Refused
@@ -128,7 +130,7 @@ pub record Blocks (past : List Entry) (x : Entry) (s : Stop) (kept kept' : engin
   pub same_room : new.room ≡ old.room
 
 -- Or the sink fails within its lines.
-pub record Loses (past : List Entry) (x : Entry) (kept kept' : engine.EngineKept)
+pub record Loses (past : List Entry) (x : Entry) (kept kept' : Engine)
     (old new : Tells) : Type 0 where
   pub allowed : blocked kept.profile past x ≡ None
   pub engine_stands : engine.StandsFor kept' (x ∷ past)
@@ -136,14 +138,14 @@ pub record Loses (past : List Entry) (x : Entry) (kept kept' : engine.EngineKept
   pub no_room : HasRoom old.room (length (lines (verdicts_at kept.profile past x))) → ⊥
 
 abbrev pub ItemJudged : List Entry → Entry → Result (Option Stop) Failed → Judging → Judging →
-    engine.EngineKept → engine.EngineKept → Tells → Tells → Type 0
+    Engine → Engine → Tells → Tells → Type 0
 ItemJudged past x (Ok None) j j' k k' old new = Accepts past x j j' k k' old new
 ItemJudged past x (Ok (Some s)) j j' k k' old new = Blocks past x s k k' old new
 ItemJudged past x (Err failed) j j' k k' old new = Loses past x k k' old new
 
 -- What a piece leads to, with the bytes before it.
 abbrev pub PieceJudged : Profile → List ℕ → Result (Option Stop) Failed → Judging →
-    engine.EngineKept → Tells → Tells → Type 0
+    Engine → Tells → Tells → Type 0
 PieceJudged p bytes (Ok None) j k old new = SoFar p bytes j k old new
 PieceJudged p bytes (Ok (Some s)) j k old new = RefusedIn p bytes s k old new
 PieceJudged p bytes (Err failed) j k old new = CutIn p bytes k old new
@@ -151,7 +153,7 @@ PieceJudged p bytes (Err failed) j k old new = CutIn p bytes k old new
 -- Why no more of a file is read: these bytes were read of it and judged, and `extra` bytes past the
 -- limit were seen.
 abbrev pub EndsAs : Profile → Ended → List ℕ → List ℕ → Option (List ℕ) → Judging →
-    engine.EngineKept → Tells → Tells → Type 0
+    Engine → Tells → Tells → Type 0
 EndsAs p ended.Whole read extra rest j k old new =
     (extra ≡ []) × told.AtEnd rest × SoFar p read j k old new
 EndsAs p ended.Fault read extra rest j k old new = (extra ≡ []) × SoFar p read j k old new
@@ -161,21 +163,21 @@ EndsAs p (ended.Refused s) read extra rest j k old new =
     (extra ≡ []) × RefusedIn p read s k old new
 
 pub record Reads (profile : Profile) (ended : Ended) (judging : Judging)
-    (kept : engine.EngineKept) (old new : Tells) (rest rest' : Option (List ℕ)) : Type 0 where
+    (kept : Engine) (old new : Tells) (rest rest' : Option (List ℕ)) : Type 0 where
   pub read : List ℕ
   pub extra : List ℕ
   pub size : length read ≤ limit
   pub rest_is : rest ≡ ahead (read ++ extra) rest'
   pub ends : EndsAs profile ended read extra rest' judging kept old new
 
-pub record ReadsCut (profile : Profile) (kept : engine.EngineKept) (old new : Tells)
+pub record ReadsCut (profile : Profile) (kept : Engine) (old new : Tells)
     (rest rest' : Option (List ℕ)) : Type 0 where
   pub read : List ℕ
   pub size : length read ≤ limit
   pub rest_is : rest ≡ ahead read rest'
   pub cut : CutIn profile read kept old new
 
-abbrev pub ReadJudged : Profile → Result Ended Failed → Judging → engine.EngineKept →
+abbrev pub ReadJudged : Profile → Result Ended Failed → Judging → Engine →
     Tells → Tells → Option (List ℕ) → Option (List ℕ) → Type 0
 ReadJudged p (Ok ended) j k old new rest rest' = Reads p ended j k old new rest rest'
 ReadJudged p (Err failed) j k old new rest rest' = ReadsCut p k old new rest rest'
@@ -204,7 +206,7 @@ asked S name old new = record {
 
 -- What was read of a file that the shelf may tell, from its opening on.
 pub record Taken (profile : Profile) (ended : Ended) (judging : Judging)
-    (kept : engine.EngineKept) (old new : Tells) (at : Asked) : Type 0 where
+    (kept : Engine) (old new : Tells) (at : Asked) : Type 0 where
   pub read : List ℕ
   pub extra : List ℕ
   pub size : length read ≤ limit
@@ -212,7 +214,7 @@ pub record Taken (profile : Profile) (ended : Ended) (judging : Judging)
   pub nothing : at.opened ≡ false → (read ≡ []) × (is_fault ended ≡ true)
   pub ends : EndsAs profile ended read extra at.rest judging kept old new
 
-pub record TakenCut (profile : Profile) (kept : engine.EngineKept) (old new : Tells) (at : Asked)
+pub record TakenCut (profile : Profile) (kept : Engine) (old new : Tells) (at : Asked)
     : Type 0 where
   pub read : List ℕ
   pub size : length read ≤ limit
@@ -249,7 +251,7 @@ pub record ReadOf (file : List ℕ) (opened : Bool) (rest : Option (List ℕ)) (
 abbrev pub nothing_judged : Judging
 nothing_judged = record { reader = reader.start; items = 0; verdicts = 0 }
 
-abbrev pub CaptureJudged : Profile → Result Ended Failed → Judging → engine.EngineKept →
+abbrev pub CaptureJudged : Profile → Result Ended Failed → Judging → Engine →
     Tells → Tells → Asked → Type 0
 CaptureJudged p (Ok ended) j k old new at = Taken p ended j k old new at
 CaptureJudged p (Err failed) j k old new at = TakenCut p k old new at

@@ -7,16 +7,15 @@ ghost use Rattle.pl_io.specs.Told.{plus, ahead, AtEnd, HasRoom, Partly};
 ghost use Rattle.pl_capture.specs.Entry.{Entry};
 ghost use Rattle.pl_capture.specs.Standing.{Holding};
 ghost use Rattle.pl_engine.specs.Engine.{StandsFor};
-ghost use Rattle.pl_engine.specs.Verdicts.{stop_of};
 ghost use Rattle.pl_profile.specs.declared.profile.Profile.{Profile};
 ghost use Rattle.pl_cli.specs.Output.{limit, lines};
 ghost use Rattle.pl_cli.specs.Progress.{ItemJudged, LooksBehind, PieceJudged, ReadJudged};
 ghost use Rattle.pl_cli.specs.Progress.{ShelfCause, SoFar, Tells, is_fault, tells};
 
 use crate::judging::{Ended, Judging};
-use pl_base::{Form, Found, Stop};
+use pl_base::{Found, MOST_VERDICTS, Stop};
 use pl_capture::Step;
-use pl_engine::{Engine, Refused};
+use pl_engine::Engine;
 use pl_io::{Failed, Shelf, Sink, write_all};
 use pl_report::verdict_line;
 
@@ -123,7 +122,7 @@ fn judge_piece<O: Sink>(
 ) -> Result<Option<Stop>, Failed>
     requires place { judging.old.reader.place + length piece.now < 2 ^ 58 }
     requires items { judging.old.items + length piece.now < 2 ^ 58 }
-    requires verdicts { judging.old.verdicts ≤ judging.old.items * 32 }
+    requires verdicts { judging.old.verdicts ≤ judging.old.items * MOST_VERDICTS }
     requires engine { engine.old.items + length piece.now < 2 ^ 58 }
     ensures judged { (p : Profile) (before : List ℕ) (start : Tells) →
         SoFar p before judging.old engine.old start (tells O.Sink out.old) →
@@ -132,7 +131,7 @@ fn judge_piece<O: Sink>(
     ensures place { OnOk result
         (judging.new.reader.place ≤ judging.old.reader.place + length piece.now) }
     ensures items { OnOk result (judging.new.items ≤ judging.old.items + length piece.now) }
-    ensures verdicts { OnOk result (judging.new.verdicts ≤ judging.new.items * 32) }
+    ensures verdicts { OnOk result (judging.new.verdicts ≤ judging.new.items * MOST_VERDICTS) }
     ensures engine { OnOk result (engine.new.items ≤ engine.old.items + length piece.now) }
     ensures cause { HasCause (O.faults out.old) (O.faults out.new) result }
 {
@@ -166,7 +165,7 @@ fn judge_item<O: Sink>(
 ) -> Result<Option<Stop>, Failed>
     requires holds { (x : Entry) × (judging.old.reader.phase ≡ Holding x) }
     requires items { judging.old.items < 2 ^ 58 }
-    requires verdicts { judging.old.verdicts ≤ judging.old.items * 32 }
+    requires verdicts { judging.old.verdicts ≤ judging.old.items * MOST_VERDICTS }
     requires engine { engine.old.items < 2 ^ 58 }
     requires none { found.old.items ≡ [] }
     ensures judged { (past : List Entry) (x : Entry) → judging.old.reader.phase ≡ Holding x →
@@ -175,7 +174,7 @@ fn judge_item<O: Sink>(
         (tells O.Sink out.old) (tells O.Sink out.new) }
     ensures reader { judging.new.reader ≡ judging.old.reader }
     ensures items { judging.new.items ≤ judging.old.items + 1 }
-    ensures verdicts { judging.new.verdicts ≤ judging.new.items * 32 }
+    ensures verdicts { judging.new.verdicts ≤ judging.new.items * MOST_VERDICTS }
     ensures engine { engine.new.items ≤ engine.old.items + 1 }
     ensures none { OnOk result (found.new.items ≡ []) }
     ensures cause { HasCause (O.faults out.old) (O.faults out.new) result }
@@ -195,18 +194,7 @@ fn judge_item<O: Sink>(
                 Err(failed) => Err(failed),
             }
         }
-        Err(refused) => Ok(Some(stop_at(refused, judging.items + 1))),
-    }
-}
-
-/// A refusal of the engine, with the number of the item that isn't judged.
-fn stop_at(refused: Refused, number: u64) -> Stop
-    ensures { result ≡ stop_of refused number }
-{
-    match refused {
-        Refused::Outstanding(limit) => Stop::Outstanding(limit, number),
-        Refused::Unacknowledged(limit) => Stop::Unacknowledged(limit, number),
-        Refused::TenBitTag => Stop::Unsupported(Form::TenBitTag, number),
+        Err(refused) => Ok(Some(refused.stop_at(judging.items + 1))),
     }
 }
 

@@ -6,8 +6,9 @@ ghost use Rattle.pl_cli.specs.Progress.{is_fault, last_cause};
 ghost use Rattle.pl_cli.specs.Promise.{Answers};
 
 use crate::judging::{Ended, Judging};
-use crate::status::{BROKEN, CLEAN, LIMIT, MALFORMED, NO_MEMORY, READ_FAULT, UNSUPPORTED};
-use crate::status::{WRITE_FAULT};
+use crate::status::{
+    BROKEN, CLEAN, LIMIT, MALFORMED, NO_MEMORY, READ_FAULT, UNSUPPORTED, WRITE_FAULT,
+};
 use pl_base::Stop;
 use pl_capture::Step;
 use pl_io::{Sink, write_all};
@@ -43,11 +44,7 @@ fn close_whole<O: Sink>(judging: &mut Judging, out: &mut O) -> u8
         Step::Bad(stop) => refuse(&stop, out),
         Step::More | Step::Item { .. } | Step::End { .. } => {
             let line = closing_line(judging.items, judging.verdicts);
-            let status = if judging.verdicts == 0 {
-                CLEAN
-            } else {
-                BROKEN
-            };
+            let status = if judging.verdicts == 0 { CLEAN } else { BROKEN };
             write_last(out, line.as_str(), status)
         }
     }

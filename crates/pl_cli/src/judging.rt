@@ -1,7 +1,7 @@
 //! How far the judging of a capture has come.
 ghost use Rattle.std.specs.Prelude.{◌≡◌, ◌+◌, ◌*◌, ◌<◌, ◌≤◌, ◌^◌};
 
-use pl_base::Stop;
+use pl_base::{MOST_VERDICTS, Stop};
 use pl_capture::Reader;
 
 /// The reader, and the counts of the items that were judged and of their verdicts.
@@ -29,11 +29,11 @@ impl Judging {
     /// Counts an item and its verdicts.
     pub(crate) fn count(&mut self, verdicts: usize)
         requires few { self.old.items < 2 ^ 58 }
-        requires verdicts { verdicts ≤ 32 }
-        requires at_most_32_each { self.old.verdicts ≤ self.old.items * 32 }
+        requires verdicts { verdicts ≤ MOST_VERDICTS }
+        requires few_each { self.old.verdicts ≤ self.old.items * MOST_VERDICTS }
         ensures { self.new ≡ record self.old {
-            items = self.old.items + 1;
-            verdicts = self.old.verdicts + verdicts
+          items = self.old.items + 1;
+          verdicts = self.old.verdicts + verdicts;
         } }
     {
         self.verdicts += verdicts as u64;

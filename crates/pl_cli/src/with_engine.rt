@@ -6,7 +6,8 @@ ghost use Rattle.pl_io.specs.Told.{plus};
 ghost use Rattle.pl_capture.specs.Reading.{reading};
 ghost use Rattle.pl_engine.specs.Engine.{StandsFor};
 ghost use Rattle.pl_engine.specs.Verdicts.{history_after};
-ghost use Rattle.pl_cli.specs.Output.{AtFault, Fault, cause, cut, items_judged, limit, output};
+ghost use Rattle.pl_engine.specs.Judged.{judged_items};
+ghost use Rattle.pl_cli.specs.Output.{AtFault, Fault, cause, cut, limit, output};
 ghost use Rattle.pl_cli.specs.Output.{status_of};
 ghost use Rattle.pl_cli.specs.Progress.{CaptureJudged, LostAtEnd, LostAtItem, ReadOf, ShelfCause};
 ghost use Rattle.pl_cli.specs.Progress.{asked, is_fault, nothing_judged, tells};
@@ -46,7 +47,7 @@ pub fn check_with<H: Shelf, O: Sink>(
         (O.written out.new ≡ plus (O.written out.old) (output engine.old.profile b))
         × (result ≡ status_of engine.old.profile b)
         × StandsFor engine.new
-        (history_after [] (items_judged engine.old.profile (reading (take limit b)))) }
+        (history_after [] (judged_items engine.old.profile (reading (take limit b)))) }
 
     // Where reading failed, they are those of what was read, in which nothing is refused.
     ensures cut_short { H.told shelf.old ≡ true → (b : List ℕ) →

@@ -1,4 +1,5 @@
 use Rattle.std.proofs.Common.{◌≡◌, ◌≤◌, ◌+◌, ◌*◌, ◌-◌, ◌++◌, ℕ, List, [], length, take}
+use Rattle.pl_base.specs.declared.verdict.TheConstants.{MOST_VERDICTS}
 use Rattle.pl_profile.specs.declared.profile.Profile.{Profile}
 use Rattle.pl_cli.specs.Progress.{SoFar, Tells, tells}
 use Rattle.pl_cli.proofs.capture.judge_piece.Given as goal
@@ -13,7 +14,7 @@ invariant-loop-place g l = record {
   reader : l.judging.reader.place ≤ l.initial.judging.reader.place + l.place;
   items : l.judging.items ≤ l.initial.judging.items + l.place;
   engine : l.engine.items ≤ l.initial.engine.items + l.place;
-  verdicts : l.judging.verdicts ≤ l.judging.items * 32;
+  verdicts : l.judging.verdicts ≤ l.judging.items * MOST_VERDICTS;
   kept : g.O.Sink.faults l.out ≡ g.O.Sink.faults l.initial.out;
 }
 

@@ -1,4 +1,5 @@
 use Rattle.std.proofs.Common.{◌≡◌, ◌≤◌, ◌*◌, ◌-◌, ◌^◌, [], length, true}
+use Rattle.pl_base.specs.declared.verdict.TheConstants.{MOST_VERDICTS}
 use Rattle.pl_profile.specs.declared.profile.Profile.{Profile}
 use Rattle.pl_cli.specs.Progress.{SoFar, tells}
 use Rattle.pl_cli.proofs.Files.{Far}
@@ -14,7 +15,7 @@ invariant-loop-taken g l = record {
   place : l.judging.reader.place ≤ l.taken;
   items : l.judging.items ≤ l.taken;
   engine : l.engine.items ≤ l.taken;
-  verdicts : l.judging.verdicts ≤ l.judging.items * 32;
+  verdicts : l.judging.verdicts ≤ l.judging.items * MOST_VERDICTS;
   opens : g.H.Shelf.opens l.shelf ≡ g.H.Shelf.opens l.initial.shelf;
   name : g.H.Shelf.open_name l.shelf ≡ g.H.Shelf.open_name l.initial.shelf;
   opened : g.H.Shelf.is_open l.shelf ≡ true;
