@@ -9,8 +9,8 @@ ghost use Rattle.pl_credit.specs.Link.{LinkEvent, credit_verdicts};
 ghost use Rattle.pl_engine.specs.Events.{grant_in, if_whole, spending_of, with_event};
 ghost use Rattle.pl_engine.specs.Verdicts.{broken_by};
 
-use pl_base::{Dir, Found};
-use pl_credit::Credits;
+use pl_base::{Dir, Found, MOST_VERDICTS};
+use pl_credit::{Credits, MOST_OF_AN_ITEM};
 use pl_dllp::{Decoded, Dllp};
 use pl_profile::Profile;
 use pl_tlp::{View, cost};
@@ -18,9 +18,9 @@ use pl_tlp::{View, cost};
 /// In a profile, a Traffic Class that has no virtual channel.
 const NO_CHANNEL: u8 = 8;
 
-/// A TLP that is taken comes as number `at`: F1, F9 and F10, behind what was found before. It spends credits where it
-/// is well-formed and its Traffic Class has a virtual channel.
-#[tactic(auto, unfolding(pl_tlp::specs::Bits::bits))]
+/// A TLP that is taken comes as number `at`: F1, F9 and F10, behind what was found before. It
+/// spends credits where it is well-formed and its Traffic Class has a virtual channel.
+#[tactic(auto, unfolding(pl_base::specs::Bits::bits))]
 pub(crate) fn spend(
     credits: &mut Credits,
     profile: &Profile,
@@ -31,12 +31,14 @@ pub(crate) fn spend(
 )
     requires profile { credits.old.profile ≡ profile.now }
     requires fits { FitsIfWhole (outcome packet.now) }
-    requires few { array_vec_len found.old ≤ 14 }
+    requires few { array_vec_len found.old + MOST_OF_AN_ITEM ≤ MOST_VERDICTS }
     ensures verdicts { (past : List LinkEvent) → StandsFor credits.old past →
-        found.new.items ≡ found.old.items ++ broken_by (credit_verdicts profile.now past) (spending_of profile.now dir (if_whole (outcome packet.now)) at) }
+        found.new.items ≡ found.old.items ++ broken_by (credit_verdicts profile.now past)
+        (spending_of profile.now dir (if_whole (outcome packet.now)) at) }
     ensures stands { (past : List LinkEvent) → StandsFor credits.old past →
-        StandsFor credits.new (with_event (spending_of profile.now dir (if_whole (outcome packet.now)) at) past) }
-    ensures few { array_vec_len found.new ≤ array_vec_len found.old + 3 }
+        StandsFor credits.new
+        (with_event (spending_of profile.now dir (if_whole (outcome packet.now)) at) past) }
+    ensures few { array_vec_len found.new ≤ array_vec_len found.old + MOST_OF_AN_ITEM }
     ensures profile { credits.new.profile ≡ credits.old.profile }
 {
     if let View::Whole(tlp) = packet {
@@ -50,11 +52,13 @@ pub(crate) fn spend(
 /// A DLLP comes as number `at`: F2 to F8 and F11, behind what was found before.
 #[tactic(auto, unfolding(pl_credit::specs::Link::credit_verdicts))]
 pub(crate) fn hear(credits: &mut Credits, dir: Dir, packet: &Decoded, at: u64, found: &mut Found)
-    requires few { array_vec_len found.old ≤ 14 }
+    requires few { array_vec_len found.old + MOST_OF_AN_ITEM ≤ MOST_VERDICTS }
     ensures verdicts { (past : List LinkEvent) → StandsFor credits.old past →
-        found.new.items ≡ found.old.items ++ broken_by (credit_verdicts credits.old.profile past) (grant_in dir packet.now at) }
-    ensures stands { (past : List LinkEvent) → StandsFor credits.old past → StandsFor credits.new (with_event (grant_in dir packet.now at) past) }
-    ensures few { array_vec_len found.new ≤ array_vec_len found.old + 3 }
+        found.new.items ≡ found.old.items ++ broken_by (credit_verdicts credits.old.profile past)
+        (grant_in dir packet.now at) }
+    ensures stands { (past : List LinkEvent) → StandsFor credits.old past →
+        StandsFor credits.new (with_event (grant_in dir packet.now at) past) }
+    ensures few { array_vec_len found.new ≤ array_vec_len found.old + MOST_OF_AN_ITEM }
     ensures profile { credits.new.profile ≡ credits.old.profile }
 {
     match packet {

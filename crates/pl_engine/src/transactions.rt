@@ -7,22 +7,25 @@ ghost use Rattle.pl_tlp.specs.Fit.{FitsIfWhole};
 ghost use Rattle.pl_pair.specs.History.{Event};
 ghost use Rattle.pl_pair.specs.Pairs.{StandsFor, room_of};
 ghost use Rattle.pl_pair.specs.Rules.{pair_verdicts};
-ghost use Rattle.pl_engine.specs.Engine.{IsTakable, IsTakableIfWhole};
+ghost use Rattle.pl_engine.specs.Parts.{IsTakable, IsTakableIfWhole};
 ghost use Rattle.pl_engine.specs.Events.{if_whole, transaction_of, with_event};
 ghost use Rattle.pl_engine.specs.Verdicts.{broken_by, refused_by};
 
 use crate::refused::Refused;
-use pl_base::{Dir, Found};
-use pl_pair::{Pairs, is_completion, needs_completion};
+use pl_base::{Dir, Found, MOST_VERDICTS};
+use pl_pair::{MOST_OF_A_COMPLETION, Pairs};
 use pl_profile::Profile;
 use pl_tlp::{Tlp, View};
 
-/// Why a TLP that would be taken isn't judged, if it isn't: it is a request that needs a completion, or a completion,
-/// with a tag of ten bits, or a request for which there is no room among the open ones.
+/// Why a TLP that would be taken isn't judged, if it isn't: it is a request that needs a
+/// completion, or a completion, with a tag of ten bits, or a request for which there is no room
+/// among the open ones.
 pub(crate) fn refusal(pairs: &Pairs, profile: &Profile, dir: Dir, packet: &View) -> Option<Refused>
     requires { room_of pairs.now ≡ profile.now.outstanding }
-    ensures past { (past : List Event) → StandsFor pairs.now past → result ≡ refused_by profile.now past dir (if_whole (outcome packet.now)) }
-    ensures takable { result ≡ None → IsTakableIfWhole pairs.now dir (if_whole (outcome packet.now)) }
+    ensures past { (past : List Event) → StandsFor pairs.now past →
+        result ≡ refused_by profile.now past dir (if_whole (outcome packet.now)) }
+    ensures takable { result ≡ None →
+        IsTakableIfWhole pairs.now dir (if_whole (outcome packet.now)) }
 {
     match packet {
         View::Whole(tlp) => refusal_of(pairs, profile, dir, tlp),
@@ -33,11 +36,12 @@ pub(crate) fn refusal(pairs: &Pairs, profile: &Profile, dir: Dir, packet: &View)
 /// Why this well-formed TLP isn't judged, if it isn't.
 fn refusal_of(pairs: &Pairs, profile: &Profile, dir: Dir, tlp: &Tlp) -> Option<Refused>
     requires { room_of pairs.now ≡ profile.now.outstanding }
-    ensures past { (past : List Event) → StandsFor pairs.now past → result ≡ refused_by profile.now past dir (Some (fields tlp.now)) }
+    ensures past { (past : List Event) → StandsFor pairs.now past →
+        result ≡ refused_by profile.now past dir (Some (fields tlp.now)) }
     ensures takable { result ≡ None → IsTakable pairs.now dir (fields tlp.now) }
 {
     if tlp.tag >= 256 {
-        let is_transaction = needs_completion(tlp.kind) || is_completion(tlp.kind);
+        let is_transaction = tlp.kind.needs_completion() || tlp.kind.is_completion();
         return is_transaction.then_some(Refused::TenBitTag);
     }
     if pairs.full_for(dir, tlp) {
@@ -46,8 +50,9 @@ fn refusal_of(pairs: &Pairs, profile: &Profile, dir: Dir, tlp: &Tlp) -> Option<R
     None
 }
 
-/// A TLP that is taken comes as number `at`: C1 to C10, behind what was found before. It is a transaction's where it is
-/// a well-formed request that needs a completion, or a well-formed completion.
+/// A TLP that is taken comes as number `at`: C1 to C10, behind what was found before. It is a
+/// transaction's where it is a well-formed request that needs a completion, or a well-formed
+/// completion.
 pub(crate) fn transact(
     pairs: &mut Pairs,
     profile: &Profile,
@@ -58,18 +63,20 @@ pub(crate) fn transact(
 )
     requires takable { IsTakableIfWhole pairs.old dir (if_whole (outcome packet.now)) }
     requires fits { FitsIfWhole (outcome packet.now) }
-    requires few { array_vec_len found.old ≤ 22 }
+    requires few { array_vec_len found.old + MOST_OF_A_COMPLETION ≤ MOST_VERDICTS }
     ensures verdicts { (past : List Event) → StandsFor pairs.old past →
-        found.new.items ≡ found.old.items ++ broken_by (pair_verdicts profile.now past) (transaction_of dir (if_whole (outcome packet.now)) at) }
+        found.new.items ≡ found.old.items ++ broken_by (pair_verdicts profile.now past)
+        (transaction_of dir (if_whole (outcome packet.now)) at) }
     ensures stands { (past : List Event) → StandsFor pairs.old past →
-        StandsFor pairs.new (with_event (transaction_of dir (if_whole (outcome packet.now)) at) past) }
-    ensures few { array_vec_len found.new ≤ array_vec_len found.old + 8 }
+        StandsFor pairs.new
+        (with_event (transaction_of dir (if_whole (outcome packet.now)) at) past) }
+    ensures few { array_vec_len found.new ≤ array_vec_len found.old + MOST_OF_A_COMPLETION }
     ensures room { room_of pairs.new ≡ room_of pairs.old }
 {
     if let View::Whole(tlp) = packet {
-        if needs_completion(tlp.kind) {
+        if tlp.kind.needs_completion() {
             pairs.request_into(dir, tlp, at, found);
-        } else if is_completion(tlp.kind) {
+        } else if tlp.kind.is_completion() {
             pairs.completion_into(profile, dir, tlp, at, found);
         }
     }
