@@ -1,20 +1,20 @@
 -- Reading a text goes as it is judged, and what is read is spelled by the tokens that were read.
-use Rattle.std.proofs.Common.{◌≡◌, ◌≢◌, ℕ, zero, suc, ◌+◌, ◌-◌, ◌<◌, ◌≤◌, Bool, true, false, cond, ltb, List, [], ◌∷◌, ◌++◌, length, Option, Some, None, Result, Ok, Err, refl, sym, ap, ◌∙◌, subst, arith, append_assoc, append-nil}
-use Rattle.std.specs.Prelude.{codes, map}
+use Rattle.std.proofs.Common.{◌≡◌, ℕ, zero, suc, ◌+◌, ◌≤◌, cond, List, [], ◌∷◌, ◌++◌, length, Option, Some, None, Result, Ok, Err, refl, sym, ap, ◌∙◌, subst, arith, append_assoc, append-nil}
+use Rattle.std.specs.Prelude.{codes}
 use Rattle.std.proofs.lemmas.Bool.{lt-ltb}
 use Rattle.std.proofs.lemmas.List.{map-append}
 use Rattle.pl_filter.specs.Answers.{IsAnswer}
-use Rattle.pl_filter.specs.Grammar.{Spells, SpellsTest, IsShallow}
-use Rattle.pl_filter.specs.Reading.{◌>>=◌, Read, at_next, close_by, filter_by, joined_by, nothing_behind, operands, operation_by, operator_in, operator_text, read_close, read_filter, read_negation, read_operation, read_pair, reading, test_in, test_or_refusal}
+use Rattle.pl_filter.specs.Grammar.{Spells}
+use Rattle.pl_filter.specs.Reading.{◌>>=◌, Read, close_by, filter_by, joined_by, nothing_behind, operands, operation_by, operator_in, read_close, read_filter, read_negation, read_operation, read_pair, reading, test_in, test_or_refusal}
 use Rattle.pl_filter.specs.Tokens.{Token, Open, Close, Word, Placed, placed, bare, tokens}
-use Rattle.pl_filter.specs.Trees.{Tree, Both, Either, Negated, Passes}
+use Rattle.pl_filter.specs.Trees.{Tree, Both, Either, Negated}
 use Rattle.pl_filter.specs.declared.error.FilterError.{FilterError}
-use Rattle.pl_filter.specs.declared.error.FilterError.TheVariants.{Syntax, TooDeep, Memory}
+use Rattle.pl_filter.specs.declared.error.FilterError.TheVariants.{TooDeep}
 use Rattle.pl_filter.specs.declared.filter.Test.{Test}
 use Rattle.pl_filter.specs.declared.word.Operator.{Operator}
 use Rattle.pl_filter.specs.declared.word.Operator.TheVariants as operator
 use Rattle.pl_filter.proofs.Judge.{judge, judged, judged-on, judged_answer, judged_done, answer_judged, refusal_of}
-use Rattle.pl_filter.proofs.Stack.{Want, Filter, Operation, Closing, step, kept, wanted, wants_of, depth}
+use Rattle.pl_filter.proofs.Stack.{Want, Filter, Operation, Closing, kept, wanted, depth}
 use Rattle.pl_filter.proofs.Words.{test_sound, operator_sound}
 
 bare-append : (xs ys : List Placed) → bare (xs ++ ys) ≡ bare xs ++ bare ys

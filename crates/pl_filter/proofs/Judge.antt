@@ -1,9 +1,9 @@
 -- A text judged token by token, and that the judgement is its answer.
-use Rattle.std.proofs.Common.{◌≡◌, ◌≢◌, ℕ, suc, ◌+◌, ◌-◌, ◌<◌, ◌≤◌, Bool, true, false, cond, ltb, List, [], ◌∷◌, ◌++◌, length, Option, Some, None, Result, Ok, Err, refl, sym, ap, ◌∙◌, subst, inl, inr, ◌⊎◌, ⊎_elim, arith, append-nil}
+use Rattle.std.proofs.Common.{◌≡◌, ◌≢◌, ℕ, ◌+◌, ◌<◌, ◌≤◌, Bool, true, false, cond, ltb, List, [], ◌∷◌, ◌++◌, length, Option, Some, None, Result, Ok, Err, refl, sym, ap, ◌∙◌, subst, inl, inr, ◌⊎◌, arith, append-nil}
 use Rattle.std.specs.Option.{option_and_then}
 use Rattle.std.proofs.lemmas.Bool.{ltb-true, ltb-false, le-ltb, lt-ltb}
-use Rattle.pl_filter.specs.Answers.{IsAnswer, IsMisplaced, IsTooDeep, EndsEarly, Reaches}
-use Rattle.pl_filter.specs.Grammar.{Spells, MayBegin, IsShallow, open_behind}
+use Rattle.pl_filter.specs.Answers.{IsAnswer, Reaches}
+use Rattle.pl_filter.specs.Grammar.{MayBegin, IsShallow}
 use Rattle.pl_filter.specs.Tokens.{Token, Open, Close, Word, Placed, bare, tokens}
 use Rattle.pl_filter.specs.Trees.{Tree}
 use Rattle.pl_filter.specs.declared.error.FilterError.{FilterError}

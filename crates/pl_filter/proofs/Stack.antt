@@ -1,13 +1,12 @@
 -- What may still come behind tokens: a stack of what is wanted, which tells whether a filter may begin so.
-use Rattle.std.proofs.Common.{◌≡◌, ℕ, suc, ◌+◌, ◌-◌, ◌<◌, ◌≤◌, List, [], ◌∷◌, ◌++◌, Option, Some, None, refl, sym, ap, ◌∙◌, subst, arith, append_assoc, append-nil}
+use Rattle.std.proofs.Common.{◌≡◌, ℕ, ◌+◌, ◌-◌, ◌≤◌, List, [], ◌∷◌, ◌++◌, Option, Some, None, refl, sym, ap, ◌∙◌, subst, arith, append_assoc, append-nil}
 use Rattle.std.specs.Prelude.{codes}
 use Rattle.std.specs.Option.{option_and_then}
-use Rattle.pl_filter.specs.Grammar.{SpellsTest, Spells, MayBegin, open_behind, IsShallow}
+use Rattle.pl_filter.specs.Grammar.{Spells, MayBegin, open_behind, IsShallow}
 use Rattle.pl_filter.specs.Reading.{like, test_in, operator_in, operator_text}
 use Rattle.pl_filter.specs.Tokens.{Token, Open, Close, Word}
 use Rattle.pl_filter.specs.Trees.{Tree, Both, Either, Negated, Passes}
 use Rattle.pl_filter.specs.declared.filter.Test.{Test}
-use Rattle.pl_filter.specs.declared.filter.Test.TheVariants as test
 use Rattle.pl_filter.specs.declared.word.Operator.{Operator}
 use Rattle.pl_filter.specs.declared.word.Operator.TheVariants as operator
 use Rattle.pl_filter.proofs.Words.{test_sound, test_spelled, operator_sound, operator_spelled}

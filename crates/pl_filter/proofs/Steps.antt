@@ -1,6 +1,6 @@
 -- What reading a filter gives, by the first token.
 use Rattle.std.proofs.Common.{◌≡◌, ◌≢◌, ℕ, zero, suc, ◌-◌, List, [], ◌∷◌, Some, None, Ok, Err, refl, ap, ◌∙◌, arith}
-use Rattle.pl_filter.specs.Reading.{at_next, filter_by, read_filter, read_operation, test_in, test_or_refusal}
+use Rattle.pl_filter.specs.Reading.{read_filter, read_operation, test_in, test_or_refusal}
 use Rattle.pl_filter.specs.Tokens.{Open, Close, Word, Placed, placed}
 use Rattle.pl_filter.specs.Trees.{Passes}
 use Rattle.pl_filter.specs.declared.error.FilterError.TheVariants.{Syntax, TooDeep}

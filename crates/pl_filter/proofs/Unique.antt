@@ -1,6 +1,5 @@
 -- Tokens are one filter at most, and a text has one answer.
-use Rattle.std.proofs.Common.{◌≡◌, ℕ, List, [], ◌∷◌, ◌++◌, get_or, Some, None, Result, Ok, Err, refl, sym, ap, ◌∙◌, arith, append_assoc}
-use Rattle.std.specs.Prelude.{codes}
+use Rattle.std.proofs.Common.{◌≡◌, ℕ, List, [], ◌∷◌, ◌++◌, get_or, Result, Ok, Err, refl, sym, ap, ◌∙◌, arith, append_assoc}
 use Rattle.pl_filter.specs.Answers.{IsAnswer}
 use Rattle.pl_filter.specs.Grammar.{SpellsTest, Spells}
 use Rattle.pl_filter.specs.Reading.{reading, test_in}

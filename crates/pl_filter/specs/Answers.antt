@@ -1,7 +1,7 @@
 -- What the reader of a filter answers to a text.
 use Rattle.std.specs.Prelude.{◌≡◌, ℕ, List, [], ◌∷◌, ◌++◌, length, Result, Ok, Err, ◌⊎◌}
 use Rattle.pl_filter.specs.Grammar.{Spells, MayBegin, IsShallow, open_behind}
-use Rattle.pl_filter.specs.Tokens.{Token, Open, Placed, bare, tokens}
+use Rattle.pl_filter.specs.Tokens.{Open, Placed, bare, tokens}
 use Rattle.pl_filter.specs.Trees.{Tree, tree}
 use Rattle.pl_filter.specs.declared.error.FilterError.{FilterError}
 use Rattle.pl_filter.specs.declared.error.FilterError.TheVariants.{Syntax, TooDeep, Memory}

@@ -1,4 +1,4 @@
-use Rattle.std.proofs.Common.{◌≡◌, ◌≢◌, List, ℕ, Result, Ok, Err, refl, sym, ap, ◌∙◌, subst}
+use Rattle.std.proofs.Common.{◌≡◌, ◌≢◌, List, ℕ, Result, Ok, Err, refl, sym, ◌∙◌, subst}
 use Rattle.pl_filter.specs.Answers.{IsAnswer, answered}
 use Rattle.pl_filter.specs.Reading.{Gives, reading}
 use Rattle.pl_filter.specs.Trees.{Tree, tree}
