@@ -1,33 +1,34 @@
 //! What a completion breaks, held against its open request: C3 to C10.
-//! PCI Express Base Specification 5.0, chapter 2: completion rules, Read Completion Boundary, completion status.
+//! PCI Express Base Specification 5.0, chapter 2: completion rules, Read Completion Boundary,
+//! completion status.
 ghost use Rattle.std.specs.Prelude.{◌≡◌, ◌≢◌, ℕ, ◌+◌, ◌<◌, ◌≤◌, ◌++◌, [], IsTrue, true, false};
 ghost use Rattle.arrayvec.specs.ArrayVec.{array_vec_len};
 ghost use Rattle.pl_profile.specs.Ranges.{is_completion_boundary};
 ghost use Rattle.pl_tlp.specs.Fields.{fields};
 ghost use Rattle.pl_tlp.specs.Fit.{Fits};
 ghost use Rattle.pl_tlp.specs.Kinds as tlps;
-ghost use Rattle.pl_pair.specs.Kinds as kinds;
-ghost use Rattle.pl_pair.specs.Judging.{held, held_if};
+ghost use Rattle.pl_tlp.specs.Groups as kinds;
+ghost use Rattle.pl_pair.specs.Judging.{held};
+ghost use Rattle.pl_pair.specs.Rules.{held_if};
 ghost use Rattle.pl_pair.specs.Rules as spec;
 
-use crate::kinds::{
-    is_atomic, is_configuration, is_locked_completion, is_locked_read,
-    is_plain_completion_with_data,
-};
 use crate::part::{has_data, is_counted, is_successful};
 use crate::request::{OpenRequest, Request};
-use crate::verdict::add_if;
-use pl_base::{Dir, Found, Rule};
+use pl_base::{Dir, Found, MOST_VERDICTS, Rule, add_if};
 use pl_profile::Profile;
 use pl_tlp::{Kind, Tlp};
 
-/// The Read Completion Boundary of the completions that travel in direction `dir`, in bytes: 64 or 128.
+/// The Read Completion Boundary of the completions that travel in direction `dir`, in bytes: 64 or
+/// 128.
 pub(crate) fn boundary_of(profile: &Profile, dir: Dir) -> u8
     ensures value { result ≡ spec.boundary_of profile.now dir }
     ensures range { IsTrue (is_completion_boundary result) }
 {
     profile.rcb[dir.index()]
 }
+
+/// The most rules that one completion can break: C3 to C10.
+pub const MOST_OF_A_COMPLETION: usize = 8;
 
 /// Which of the rules C3 to C10 a completion breaks.
 #[derive(Clone, Copy)]
@@ -42,17 +43,18 @@ struct Broken {
     c10: bool,
 }
 
-/// Adds what the completion at position `at` breaks of C3 to C10, where `boundary` is the Read Completion Boundary of
-/// its direction.
+/// Adds what the completion at position `at` breaks of C3 to C10, where `boundary` is the Read
+/// Completion Boundary of its direction.
 ///
 /// Most completions break none, and then nothing is written.
 #[tactic(auto, unfolding(crate::specs::Rules::part_verdicts))]
 pub(crate) fn judge_part(found: &mut Found, boundary: u8, opened: &OpenRequest, tlp: &Tlp, at: u64)
-    requires room { array_vec_len found.old ≤ 22 }
+    requires room { array_vec_len found.old + MOST_OF_A_COMPLETION ≤ MOST_VERDICTS }
     requires boundary { IsTrue (is_completion_boundary boundary) }
     requires fits { Fits (fields tlp.now) }
-    ensures verdicts { found.new.items ≡ found.old.items ++ spec.part_verdicts boundary opened.now (fields tlp.now) at }
-    ensures few { array_vec_len found.new ≤ array_vec_len found.old + 8 }
+    ensures verdicts { found.new.items
+        ≡ found.old.items ++ spec.part_verdicts boundary opened.now (fields tlp.now) at }
+    ensures few { array_vec_len found.new ≤ array_vec_len found.old + MOST_OF_A_COMPLETION }
 {
     let broken = broken_by(boundary, opened, tlp);
     if broken.any() {
@@ -69,12 +71,12 @@ impl Broken {
         self.c3 || self.c4 || self.c5 || self.c6 || self.c7 || self.c8 || self.c9 || self.c10
     }
 
-    /// Adds the verdicts on the completion at position `at`, which cite its open request and the first of its
-    /// completions.
+    /// Adds the verdicts on the completion at position `at`, which cite its open request and the
+    /// first of its completions.
     fn add_verdicts(&self, found: &mut Found, opened: &OpenRequest, at: u64)
-        requires { array_vec_len found.old ≤ 22 }
+        requires { array_vec_len found.old + MOST_OF_A_COMPLETION ≤ MOST_VERDICTS }
         ensures items { found.new.items ≡ found.old.items ++ held opened.now at self.now }
-        ensures few { array_vec_len found.new ≤ array_vec_len found.old + 8 }
+        ensures few { array_vec_len found.new ≤ array_vec_len found.old + MOST_OF_A_COMPLETION }
     {
         hold(found, self.c3, Rule::C3, opened, at);
         hold(found, self.c4, Rule::C4, opened, at);
@@ -87,9 +89,10 @@ impl Broken {
     }
 }
 
-/// Adds a verdict that cites the open request and the first of its completions, where the rule is broken.
+/// Adds a verdict that cites the open request and the first of its completions, where the rule is
+/// broken.
 fn hold(found: &mut Found, broken: bool, rule: Rule, opened: &OpenRequest, at: u64)
-    requires { array_vec_len found.old < 32 }
+    requires { array_vec_len found.old + 1 ≤ MOST_VERDICTS }
     ensures items { found.new.items ≡ found.old.items ++ held_if opened.now broken rule at }
     ensures most { array_vec_len found.new ≤ array_vec_len found.old + 1 }
 {
@@ -100,14 +103,14 @@ fn hold(found: &mut Found, broken: bool, rule: Rule, opened: &OpenRequest, at: u
 fn broken_by(boundary: u8, opened: &OpenRequest, tlp: &Tlp) -> Broken
     requires boundary { IsTrue (is_completion_boundary boundary) }
     requires fits { Fits (fields tlp.now) }
-    ensures c3 { result.c3 ≡ spec.breaks_C3 opened.now.request (fields tlp.now) }
-    ensures c4 { result.c4 ≡ spec.breaks_C4 opened.now.request (fields tlp.now) }
-    ensures c5 { result.c5 ≡ spec.breaks_C5 opened.now.request opened.now.got (fields tlp.now) }
-    ensures c6 { result.c6 ≡ spec.breaks_C6 opened.now.request opened.now.got (fields tlp.now) }
-    ensures c7 { result.c7 ≡ spec.breaks_C7 opened.now.request opened.now.got (fields tlp.now) }
-    ensures c8 { result.c8 ≡ spec.breaks_C8 opened.now.request (fields tlp.now) }
-    ensures c9 { result.c9 ≡ spec.breaks_C9 boundary opened.now.request opened.now.got (fields tlp.now) }
-    ensures c10 { result.c10 ≡ spec.breaks_C10 opened.now.request (fields tlp.now) }
+    ensures c3 { result.c3 ≡ spec.breaks_c3 opened.now.request (fields tlp.now) }
+    ensures c4 { result.c4 ≡ spec.breaks_c4 opened.now.request (fields tlp.now) }
+    ensures c5 { result.c5 ≡ spec.breaks_c5 opened.now.request opened.now.got (fields tlp.now) }
+    ensures c6 { result.c6 ≡ spec.breaks_c6 opened.now.request opened.now.got (fields tlp.now) }
+    ensures c7 { result.c7 ≡ spec.breaks_c7 opened.now.request opened.now.got (fields tlp.now) }
+    ensures c8 { result.c8 ≡ spec.breaks_c8 opened.now.request (fields tlp.now) }
+    ensures c9 { result.c9 ≡ spec.breaks_c9 boundary opened.now.request opened.now.got (fields tlp.now) }
+    ensures c10 { result.c10 ≡ spec.breaks_c10 opened.now.request (fields tlp.now) }
 {
     let request = &opened.request;
     let counts = counts_broken_by(boundary, opened, tlp);
@@ -125,20 +128,20 @@ fn broken_by(boundary: u8, opened: &OpenRequest, tlp: &Tlp) -> Broken
 
 /// C3: another Traffic Class, or other attributes Attr[1:0], than the request.
 fn breaks_c3(request: &Request, tlp: &Tlp) -> bool
-    ensures { result ≡ spec.breaks_C3 request.now (fields tlp.now) }
+    ensures { result ≡ spec.breaks_c3 request.now (fields tlp.now) }
 {
     tlp.tc != request.tc || tlp.attr % 4 != request.attr % 4
 }
 
-/// C4: data with an unsuccessful status, none with a successful one where data were wanted, data where none were
-/// wanted, or less than an AtomicOp wants.
+/// C4: data with an unsuccessful status, none with a successful one where data were wanted, data
+/// where none were wanted, or less than an AtomicOp wants.
 fn breaks_c4(request: &Request, tlp: &Tlp) -> bool
     requires { Fits (fields tlp.now) }
-    ensures { result ≡ spec.breaks_C4 request.now (fields tlp.now) }
+    ensures { result ≡ spec.breaks_c4 request.now (fields tlp.now) }
 {
     let wanted = request.wanted();
     if has_data(tlp) {
-        !is_successful(tlp) || wanted == 0 || (is_atomic(request.kind) && tlp.length < wanted)
+        !is_successful(tlp) || wanted == 0 || (request.kind.is_atomic() && tlp.length < wanted)
     } else {
         is_successful(tlp) && wanted != 0
     }
@@ -147,7 +150,7 @@ fn breaks_c4(request: &Request, tlp: &Tlp) -> bool
 /// C5: more data than were wanted.
 fn breaks_c5(opened: &OpenRequest, tlp: &Tlp) -> bool
     requires { Fits (fields tlp.now) }
-    ensures { result ≡ spec.breaks_C5 opened.now.request opened.now.got (fields tlp.now) }
+    ensures { result ≡ spec.breaks_c5 opened.now.request opened.now.got (fields tlp.now) }
 {
     let wanted = opened.request.wanted();
     has_data(tlp) && wanted != 0 && reached(opened, tlp) > u32::from(wanted)
@@ -175,13 +178,14 @@ const NONE: Counts = Counts {
     c9: false,
 };
 
-/// Which of C6, C7 and C9 it breaks. Those that can't apply to its status and its request aren't tried.
+/// Which of C6, C7 and C9 it breaks. Those that can't apply to its status and its request aren't
+/// tried.
 fn counts_broken_by(boundary: u8, opened: &OpenRequest, tlp: &Tlp) -> Counts
     requires boundary { IsTrue (is_completion_boundary boundary) }
     requires fits { Fits (fields tlp.now) }
-    ensures c6 { result.c6 ≡ spec.breaks_C6 opened.now.request opened.now.got (fields tlp.now) }
-    ensures c7 { result.c7 ≡ spec.breaks_C7 opened.now.request opened.now.got (fields tlp.now) }
-    ensures c9 { result.c9 ≡ spec.breaks_C9 boundary opened.now.request opened.now.got (fields tlp.now) }
+    ensures c6 { result.c6 ≡ spec.breaks_c6 opened.now.request opened.now.got (fields tlp.now) }
+    ensures c7 { result.c7 ≡ spec.breaks_c7 opened.now.request opened.now.got (fields tlp.now) }
+    ensures c9 { result.c9 ≡ spec.breaks_c9 boundary opened.now.request opened.now.got (fields tlp.now) }
 {
     let request = &opened.request;
     if !is_counted(request, tlp) {
@@ -216,14 +220,14 @@ fn counts_broken_by(boundary: u8, opened: &OpenRequest, tlp: &Tlp) -> Counts
     }
 }
 
-/// Whether a completion with data of a memory read isn't the last one, and ends elsewhere than at a multiple of the
-/// Read Completion Boundary.
+/// Whether a completion with data of a memory read isn't the last one, and ends elsewhere than at a
+/// multiple of the Read Completion Boundary.
 fn ends_amiss(boundary: u8, opened: &OpenRequest, tlp: &Tlp) -> bool
     requires counted { spec.is_counted opened.now.request (fields tlp.now) ≡ true }
     requires read { kinds.is_memory_read opened.now.request.kind ≡ true }
     requires carries { tlps.has_data tlp.now.kind ≡ true }
     requires boundary { IsTrue (is_completion_boundary boundary) }
-    ensures { result ≡ spec.breaks_C9 boundary opened.now.request opened.now.got (fields tlp.now) }
+    ensures { result ≡ spec.breaks_c9 boundary opened.now.request opened.now.got (fields tlp.now) }
 {
     let reached = reached(opened, tlp);
     if reached >= u32::from(opened.request.wanted()) {
@@ -235,18 +239,18 @@ fn ends_amiss(boundary: u8, opened: &OpenRequest, tlp: &Tlp) -> bool
 
 /// C8: Configuration Request Retry Status for another request.
 fn breaks_c8(request: &Request, tlp: &Tlp) -> bool
-    ensures { result ≡ spec.breaks_C8 request.now (fields tlp.now) }
+    ensures { result ≡ spec.breaks_c8 request.now (fields tlp.now) }
 {
-    tlp.status == 2 && !is_configuration(request.kind)
+    tlp.status == 2 && !request.kind.is_configuration_request()
 }
 
 /// C10: a completion of a locked read for another request, or the other way round.
 fn breaks_c10(request: &Request, tlp: &Tlp) -> bool
-    ensures { result ≡ spec.breaks_C10 request.now (fields tlp.now) }
+    ensures { result ≡ spec.breaks_c10 request.now (fields tlp.now) }
 {
-    if is_locked_read(request.kind) {
-        is_plain_completion_with_data(tlp.kind)
+    if request.kind.is_locked_read() {
+        tlp.kind.is_plain_completion_with_data()
     } else {
-        is_locked_completion(tlp.kind)
+        tlp.kind.is_locked_completion()
     }
 }

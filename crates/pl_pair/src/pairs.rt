@@ -1,25 +1,25 @@
 //! The open requests of both directions, and what breaks C1 to C10.
 //! PCI Express Base Specification 5.0, chapter 2: transaction ordering and completion rules.
-ghost use Rattle.std.specs.Prelude.{◌≡◌, ◌+◌, ◌<◌, ◌≤◌, ◌↔◌, List, [], ◌∷◌, ◌++◌, None, IfOk, IsTrue, true};
+ghost use Rattle.std.specs.Prelude.{◌≡◌, ◌+◌, ◌<◌, ◌≤◌, ◌↔◌, List, [], ◌∷◌, ◌++◌, None, IfOk};
+ghost use Rattle.std.specs.Prelude.{IsTrue, true};
 ghost use Rattle.std.specs.FinMap as map;
 ghost use Rattle.arrayvec.specs.ArrayVec.{array_vec_len};
 ghost use Rattle.pl_tlp.specs.Fields.{fields};
 ghost use Rattle.pl_tlp.specs.Fit.{Fits};
 ghost use Rattle.pl_index.specs.Table.{entries, limit, LacksRoomFor};
 ghost use Rattle.pl_profile.specs.declared.profile.Profile.{Profile};
-ghost use Rattle.pl_pair.specs.Kinds as kinds;
-ghost use Rattle.pl_pair.specs.History.{Completion, Event, Request, open_request, outstanding, request_id};
+ghost use Rattle.pl_tlp.specs.Groups as kinds;
+ghost use Rattle.pl_pair.specs.History.{Completion, Event, Request, open_request, outstanding};
+ghost use Rattle.pl_pair.specs.History.{request_id};
 ghost use Rattle.pl_pair.specs.Pairs.{StandsFor, key_of};
 ghost use Rattle.pl_pair.specs.Rules.{pair_verdicts};
 
-use crate::following::after_part;
-use crate::judging::{boundary_of, judge_part};
-use crate::kinds::needs_completion;
+use crate::after_part::after_part;
+use crate::judging::{MOST_OF_A_COMPLETION, boundary_of, judge_part};
 use crate::request::OpenRequest;
 use crate::requested::request_of;
 use crate::transaction::TransactionId;
-use crate::verdict::add_if;
-use pl_base::{Dir, Found, Rule};
+use pl_base::{Dir, Found, MOST_VERDICTS, Rule, add_if};
 use pl_index::Table;
 use pl_profile::Profile;
 use pl_tlp::Tlp;
@@ -28,8 +28,9 @@ use std::marker::Model;
 
 /// The open requests of both directions since the link came up.
 ///
-/// Pairs keep no history: of each open request they keep what its completions are held against, how much of its data
-/// came, and which items verdicts cite. A request is forgotten as soon as a completion ends it.
+/// Pairs keep no history: of each open request they keep what its completions are held against, how
+/// much of its data came, and which items verdicts cite. A request is forgotten as soon as a
+/// completion ends it.
 #[derive(Drop)]
 pub struct Pairs {
     table: Table<OpenRequest>,
@@ -48,7 +49,9 @@ impl Model for Pairs {
 
     ghost Value = { Kept };
 
-    ghost coded = { code_by (ℕ × map.FinMap nat_cmp OpenRequest) (coded× coded_ℕ (map.code coded_ℕ requests.the_row.coded)) (λ kept. kept.table) (λ table. record { table = table }) (λ _. refl) };
+    ghost coded = { code_by (ℕ × map.FinMap nat_cmp OpenRequest)
+        (coded× coded_ℕ (map.code coded_ℕ requests.the_row.coded))
+        (λ kept. kept.table) (λ table. record { table = table }) (λ _. refl) };
 
     ghost view = { λ p. record { table = p.table } };
 
@@ -56,7 +59,8 @@ impl Model for Pairs {
 }
 
 impl Pairs {
-    /// The pairs of an empty span, with memory for `room` open requests, 1 to 262,144. No other call takes memory.
+    /// The pairs of an empty span, with memory for `room` open requests, 1 to 262,144. No other
+    /// call takes memory.
     ///
     /// # Errors
     ///
@@ -88,27 +92,31 @@ impl Pairs {
         self.table.len()
     }
 
-    /// Whether there is no room for this TLP: a request that needs a completion and would be open beside as many others
-    /// as there is room for. A request whose transaction ID is in use takes the place of the open one.
+    /// Whether there is no room for this TLP: a request that needs a completion and would be open
+    /// beside as many others as there is room for. A request whose transaction ID is in use takes
+    /// the place of the open one.
     ///
     /// The Tag is below 256.
     pub fn full_for(&self, dir: Dir, tlp: &Tlp) -> bool
         requires { tlp.now.tag < 256 }
-        ensures now { IsTrue result ↔ ((kinds.needs_completion tlp.now.kind ≡ true) × LacksRoomFor self.now.table (key_of (request_id dir (fields tlp.now)))) }
+        ensures now { IsTrue result
+            ↔ ((kinds.needs_completion tlp.now.kind ≡ true)
+            × LacksRoomFor self.now.table (key_of (request_id dir (fields tlp.now)))) }
         ensures past { (past : List Event) → StandsFor self.now past → (IsTrue result ↔
             ((kinds.needs_completion tlp.now.kind ≡ true)
             × (open_request (request_id dir (fields tlp.now)) past ≡ None)
             × (outstanding past ≡ limit self.now.table))) }
     {
-        if !needs_completion(tlp.kind) || self.table.len() < self.room {
+        if !tlp.kind.needs_completion() || self.table.len() < self.room {
             return false;
         }
         let id = TransactionId::of_request(dir, tlp);
         self.table.get(id.key()).is_none()
     }
 
-    /// A request that needs a completion travels in direction `dir`, at position `at`: whether it breaks C2. It takes
-    /// the place of an open request with its transaction ID. From then on the pairs stand for the history with it.
+    /// A request that needs a completion travels in direction `dir`, at position `at`: whether it
+    /// breaks C2. It takes the place of an open request with its transaction ID. From then on the
+    /// pairs stand for the history with it.
     ///
     /// The Tag is below 256, and there is room: see `full_for`.
     pub fn request(&mut self, dir: Dir, tlp: &Tlp, at: u64) -> Found
@@ -116,8 +124,10 @@ impl Pairs {
         requires tag { tlp.now.tag < 256 }
         requires fits { Fits (fields tlp.now) }
         requires room { LacksRoomFor self.old.table (key_of (request_id dir (fields tlp.now))) → ⊥ }
-        ensures verdicts { (past : List Event) (profile : Profile) → StandsFor self.old past → result.items ≡ pair_verdicts profile past (Request dir (fields tlp.now) at) }
-        ensures stands { (past : List Event) → StandsFor self.old past → StandsFor self.new (Request dir (fields tlp.now) at ∷ past) }
+        ensures verdicts { (past : List Event) (profile : Profile) → StandsFor self.old past
+            → result.items ≡ pair_verdicts profile past (Request dir (fields tlp.now) at) }
+        ensures stands { (past : List Event) → StandsFor self.old past
+            → StandsFor self.new (Request dir (fields tlp.now) at ∷ past) }
         ensures few { array_vec_len result ≤ 1 }
         ensures room { limit self.new.table ≡ limit self.old.table }
     {
@@ -126,16 +136,19 @@ impl Pairs {
         found
     }
 
-    /// As [`Pairs::request`], with the verdict behind those that were found before, at most 31.
+    /// As [`Pairs::request`], with the verdict behind those that were found before.
     #[tactic(auto, unfolding(crate::specs::Rules::pair_verdicts))]
     pub fn request_into(&mut self, dir: Dir, tlp: &Tlp, at: u64, found: &mut Found)
         requires needs { kinds.needs_completion tlp.now.kind ≡ true }
         requires tag { tlp.now.tag < 256 }
         requires fits { Fits (fields tlp.now) }
         requires room { LacksRoomFor self.old.table (key_of (request_id dir (fields tlp.now))) → ⊥ }
-        requires few { array_vec_len found.old ≤ 31 }
-        ensures verdicts { (past : List Event) (profile : Profile) → StandsFor self.old past → found.new.items ≡ found.old.items ++ pair_verdicts profile past (Request dir (fields tlp.now) at) }
-        ensures stands { (past : List Event) → StandsFor self.old past → StandsFor self.new (Request dir (fields tlp.now) at ∷ past) }
+        requires few { array_vec_len found.old + 1 ≤ MOST_VERDICTS }
+        ensures verdicts { (past : List Event) (profile : Profile) → StandsFor self.old past
+            → found.new.items
+            ≡ found.old.items ++ pair_verdicts profile past (Request dir (fields tlp.now) at) }
+        ensures stands { (past : List Event) → StandsFor self.old past
+            → StandsFor self.new (Request dir (fields tlp.now) at ∷ past) }
         ensures few { array_vec_len found.new ≤ array_vec_len found.old + 1 }
         ensures room { limit self.new.table ≡ limit self.old.table }
     {
@@ -151,17 +164,20 @@ impl Pairs {
         }
     }
 
-    /// A completion travels in direction `dir`, at position `at`: what it breaks of C3 to C10, or C1 alone where it
-    /// names no open request. From then on the pairs stand for the history with it.
+    /// A completion travels in direction `dir`, at position `at`: what it breaks of C3 to C10, or
+    /// C1 alone where it names no open request. From then on the pairs stand for the history with
+    /// it.
     ///
     /// The Tag is below 256.
     pub fn completion(&mut self, profile: &Profile, dir: Dir, tlp: &Tlp, at: u64) -> Found
         requires is { kinds.is_completion tlp.now.kind ≡ true }
         requires tag { tlp.now.tag < 256 }
         requires fits { Fits (fields tlp.now) }
-        ensures verdicts { (past : List Event) → StandsFor self.old past → result.items ≡ pair_verdicts profile.now past (Completion dir (fields tlp.now) at) }
-        ensures stands { (past : List Event) → StandsFor self.old past → StandsFor self.new (Completion dir (fields tlp.now) at ∷ past) }
-        ensures few { array_vec_len result ≤ 8 }
+        ensures verdicts { (past : List Event) → StandsFor self.old past
+            → result.items ≡ pair_verdicts profile.now past (Completion dir (fields tlp.now) at) }
+        ensures stands { (past : List Event) → StandsFor self.old past
+            → StandsFor self.new (Completion dir (fields tlp.now) at ∷ past) }
+        ensures few { array_vec_len result ≤ MOST_OF_A_COMPLETION }
         ensures room { limit self.new.table ≡ limit self.old.table }
     {
         let mut found = Found::new();
@@ -169,7 +185,7 @@ impl Pairs {
         found
     }
 
-    /// As [`Pairs::completion`], with the verdicts behind those that were found before, at most 22.
+    /// As [`Pairs::completion`], with the verdicts behind those that were found before.
     #[tactic(auto, unfolding(crate::specs::Rules::pair_verdicts))]
     pub fn completion_into(
         &mut self,
@@ -182,10 +198,13 @@ impl Pairs {
         requires is { kinds.is_completion tlp.now.kind ≡ true }
         requires tag { tlp.now.tag < 256 }
         requires fits { Fits (fields tlp.now) }
-        requires few { array_vec_len found.old ≤ 22 }
-        ensures verdicts { (past : List Event) → StandsFor self.old past → found.new.items ≡ found.old.items ++ pair_verdicts profile.now past (Completion dir (fields tlp.now) at) }
-        ensures stands { (past : List Event) → StandsFor self.old past → StandsFor self.new (Completion dir (fields tlp.now) at ∷ past) }
-        ensures few { array_vec_len found.new ≤ array_vec_len found.old + 8 }
+        requires few { array_vec_len found.old + MOST_OF_A_COMPLETION ≤ MOST_VERDICTS }
+        ensures verdicts { (past : List Event) → StandsFor self.old past
+            → found.new.items
+            ≡ found.old.items ++ pair_verdicts profile.now past (Completion dir (fields tlp.now) at) }
+        ensures stands { (past : List Event) → StandsFor self.old past
+            → StandsFor self.new (Completion dir (fields tlp.now) at ∷ past) }
+        ensures few { array_vec_len found.new ≤ array_vec_len found.old + MOST_OF_A_COMPLETION }
         ensures room { limit self.new.table ≡ limit self.old.table }
     {
         let key = TransactionId::answered(dir, tlp).key();

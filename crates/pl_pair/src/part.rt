@@ -32,7 +32,8 @@ pub(crate) fn is_successful(tlp: &Tlp) -> bool
     tlp.status == 0
 }
 
-/// Whether it succeeds, and its request asks for no translation: then its Byte Count and Lower Address are judged.
+/// Whether it succeeds, and its request asks for no translation: then its Byte Count and Lower
+/// Address are judged.
 pub(crate) fn is_counted(request: &Request, tlp: &Tlp) -> bool
     ensures { result ≡ rules.is_counted request.now (fields tlp.now) }
 {

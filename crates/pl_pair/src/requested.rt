@@ -1,5 +1,6 @@
 //! What a request asks for.
-//! PCI Express Base Specification 5.0, chapter 2: byte enables, AtomicOps, and the Byte Count of completions.
+//! PCI Express Base Specification 5.0, chapter 2: byte enables, AtomicOps, and the Byte Count of
+//! completions.
 ghost use Rattle.std.specs.Prelude.{◌≡◌, ◌<◌, ◌≤◌, ◌+◌, ◌^◌};
 ghost use Rattle.pl_tlp.specs.Fields.{fields};
 ghost use Rattle.pl_pair.specs.Requested as spec;
@@ -27,8 +28,8 @@ pub(crate) fn request_of(tlp: &Tlp) -> Request
 }
 
 impl Request {
-    /// How many DW of data its completions carry in all: of a compare and swap, whose data are two operands,
-    /// one of them comes back.
+    /// How many DW of data its completions carry in all: of a compare and swap, whose data are two
+    /// operands, one of them comes back.
     pub(crate) fn wanted(&self) -> u16
         ensures value { result ≡ spec.wanted self.now }
         ensures most { result ≤ self.now.length + 1 }
@@ -98,8 +99,8 @@ impl Request {
         }
     }
 
-    /// The low seven bits of the address of the first byte that the next completion of a memory read brings,
-    /// after `before` DW were brought.
+    /// The low seven bits of the address of the first byte that the next completion of a memory
+    /// read brings, after `before` DW were brought.
     pub(crate) fn lower_address(&self, before: u16) -> u32
         ensures { result ≡ lower_address self.now before }
     {

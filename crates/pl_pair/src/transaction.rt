@@ -11,7 +11,7 @@ use pl_tlp::Tlp;
 /// The direction of a request, its Requester ID and its Tag.
 #[derive(Clone, Copy, Debug, PartialEq, Eq)]
 pub struct TransactionId {
-    pub direction: Dir,
+    pub dir: Dir,
     pub requester: u16,
     pub tag: u16,
 }
@@ -24,7 +24,7 @@ impl TransactionId {
         ensures range { IsInRange result }
     {
         TransactionId {
-            direction: dir,
+            dir,
             requester: tlp.requester,
             tag: tlp.tag,
         }
@@ -37,7 +37,7 @@ impl TransactionId {
         ensures range { IsInRange result }
     {
         TransactionId {
-            direction: dir.opposite(),
+            dir: dir.opposite(),
             requester: tlp.requester,
             tag: tlp.tag,
         }
@@ -48,8 +48,6 @@ impl TransactionId {
         requires { IsInRange self }
         ensures { result ≡ key_of self }
     {
-        ((self.direction.index() as u32) << 24)
-            + (u32::from(self.requester) << 8)
-            + u32::from(self.tag)
+        ((self.dir.index() as u32) << 24) + (u32::from(self.requester) << 8) + u32::from(self.tag)
     }
 }

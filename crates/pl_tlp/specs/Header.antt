@@ -1,10 +1,13 @@
--- Where the fields of a header are. A field that a layout doesn't have has no places, and so its value is 0.
+-- Where the fields of a header are. A field that a layout doesn't have has no places, and so its
+-- value is 0.
 use Rattle.std.specs.Prelude.{ℕ, Bool, true, false, List, [], ◌++◌, if◌then◌else◌}
 use Rattle.pl_tlp.specs.declared.kind.Layout.{Layout}
-use Rattle.pl_tlp.specs.declared.kind.Layout.TheVariants.{Addressed, Configuration, Message, Completion}
-use Rattle.pl_tlp.specs.Bits.{Place, bits, octets}
+use Rattle.pl_tlp.specs.declared.kind.Layout.TheVariants.{Addressed, Configuration, Message}
+use Rattle.pl_tlp.specs.declared.kind.Layout.TheVariants.{Completion}
+use Rattle.pl_base.specs.Bits.{Place, bits, octets}
 
--- The first DW, which is the same in every header. Of the Fmt, bit 5 is a header of 4 DW and bit 6 data behind it.
+-- The first DW, which is the same in every header. Of the Fmt, bit 5 is a header of 4 DW and bit 6
+-- data behind it.
 abbrev pub wide_bits : List Place
 wide_bits = bits 0 5 5
 
@@ -51,7 +54,8 @@ last_be_bits Addressed = bits 7 7 4
 last_be_bits Configuration = bits 7 7 4
 last_be_bits other = []
 
--- The address, by whether the header has 4 DW: the two lowest bits of a memory or I/O address are taken as 0.
+-- The address, by whether the header has 4 DW: the two lowest bits of a memory or I/O address are
+-- taken as 0.
 abbrev pub address_bits : Layout → Bool → List Place
 address_bits Addressed false = octets 8 3 ++ bits 11 7 2
 address_bits Addressed true = octets 8 7 ++ bits 15 7 2
@@ -93,8 +97,8 @@ abbrev pub lower_bits : Layout → List Place
 lower_bits Completion = bits 11 6 0
 lower_bits other = []
 
--- The places that no field has: LN, the reserved bits, and the two bits below the address of a memory or I/O request.
--- They are not looked at, and written as 0.
+-- The places that no field has: LN, the reserved bits, and the two bits below the address of a
+-- memory or I/O request. They are not looked at, and written as 0.
 abbrev pub spare_bits : Layout → Bool → List Place
 spare_bits Addressed wide = bits 1 1 1 ++ (if wide then bits 15 1 0 else bits 11 1 0)
 spare_bits Completion wide = bits 1 1 1 ++ bits 11 7 7

@@ -2,12 +2,13 @@
 //! PCI Express Base Specification 5.0, chapter 2, transaction layer protocol: common packet header
 //! fields, request headers, message headers and completion headers.
 ghost use Rattle.std.specs.Prelude.{◌≡◌, ◌*◌, ◌<◌, ◌≤◌, ◌++◌, length};
-ghost use Rattle.pl_tlp.specs.Bits.{value};
-ghost use Rattle.pl_tlp.specs.Bits as spec_bits;
+ghost use Rattle.pl_base.specs.Bits.{value};
+ghost use Rattle.pl_base.specs.Bits as spec_bits;
 ghost use Rattle.pl_tlp.specs.Fields.{fields, first_dw, byte_count_of, status_in};
 ghost use Rattle.pl_tlp.specs.Fields as spec;
 ghost use Rattle.pl_tlp.specs.Header as places;
-ghost use Rattle.pl_tlp.specs.declared.kind.Layout.TheVariants.{Addressed, Configuration, Message, Completion};
+ghost use Rattle.pl_tlp.specs.declared.kind.Layout.TheVariants.{Addressed, Configuration, Message};
+ghost use Rattle.pl_tlp.specs.declared.kind.Layout.TheVariants.{Completion};
 
 use crate::bits::{bits, bits_and_byte, is_set, u16_at, u32_at, u64_at};
 use crate::kind::{Kind, Layout};
@@ -169,7 +170,8 @@ fn attr_of(header: &[u8]) -> u8
 fn tag_of(header: &[u8], byte: usize) -> u16
     requires short { 12 ≤ length header.now }
     requires byte { byte < 12 }
-    ensures { result ≡ value (spec_bits.bits 1 7 7 ++ spec_bits.bits 1 3 3 ++ spec_bits.bits byte 7 0) header.now }
+    ensures { result
+        ≡ value (spec_bits.bits 1 7 7 ++ spec_bits.bits 1 3 3 ++ spec_bits.bits byte 7 0) header.now }
 {
     let high = bits(header, 1, 7, 7) * 2 + bits(header, 1, 3, 3);
     u16::from(high) * 256 + u16::from(bits(header, byte, 7, 0))

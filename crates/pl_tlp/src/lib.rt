@@ -2,16 +2,17 @@
 #![tactic(auto)]
 
 mod bits;
-mod credits;
+mod credit_cost;
 mod encode;
 mod fitting;
+mod groups;
 mod header;
+mod header_bytes;
 mod kind;
 mod reading;
-mod spelling;
 mod tlp;
 
-pub use credits::cost;
+pub use credit_cost::cost;
 pub use encode::encode_into;
 pub use fitting::fits;
 pub use kind::Kind;

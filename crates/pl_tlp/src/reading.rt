@@ -19,8 +19,8 @@ pub(crate) const WIDE_HEADER: usize = 16;
 /// Sees a TLP in its bytes, from the first prefix or the header to the digest; it copies no data.
 ///
 /// WrongSize where the bytes end before a header's byte 0, else Undefined where that byte's Fmt and
-/// Type are no kind's, else WrongSize where the size isn't that of the prefixes, the header, the data
-/// and the digest.
+/// Type are no kind's, else WrongSize where the size isn't that of the prefixes, the header, the
+/// data and the digest.
 #[tactic(auto, unfolding(crate::specs::Fields::view_of))]
 pub fn view(tlp: &[u8]) -> View<'_>
     ensures outcome { outcome result ≡ view_of tlp.now }
