@@ -1,6 +1,7 @@
--- The capture that two numbers make. Two ends bring up virtual channel 0; then in each round the device
--- at the lower end reads memory, and the Root Complex answers with two completions.
-use Rattle.std.specs.Prelude.{◌≡◌, ◌<◌, ◌≤◌, ℕ, zero, suc, ◌+◌, ◌-◌, ◌*◌, ◌/◌, ◌%◌, ◌^◌, Bool, false, None}
+-- The capture that two numbers make. Two ends bring up virtual channel 0; then in each round the
+-- device at the lower end reads memory, and the Root Complex answers with two completions.
+use Rattle.std.specs.Prelude.{◌≡◌, ◌<◌, ◌≤◌, ℕ, zero, suc, ◌+◌, ◌-◌, ◌*◌, ◌/◌, ◌%◌, ◌^◌}
+use Rattle.std.specs.Prelude.{Bool, false, None}
 use Rattle.std.specs.Prelude.{List, [], ◌∷◌, ◌++◌, length, replicate}
 use Rattle.std.specs.List.{flat_map}
 use Rattle.pl_base.specs.declared.link.Class.{Class}
@@ -49,8 +50,8 @@ credits stage class header units = record {
 
 -- ---- the bring-up
 
--- Both ends advertise P, NP and Cpl credits; the Root Complex takes any number of completions. The first
--- of the six items has this number.
+-- Both ends advertise P, NP and Cpl credits; the Root Complex takes any number of completions. The
+-- first of the six items has this number.
 abbrev pub bring_up : Stage → ℕ → List Entry
 bring_up stage first =
     dllp first Down (credit_bytes (credits stage P 32 64))
@@ -67,8 +68,8 @@ bring_up stage first =
 abbrev pub step : ℕ → ℕ
 step x = (6364136223846793005 * x + 1442695040888963407) % 2 ^ 64
 
--- What a round takes from the generator's number x: the lengths in DW of the two parts of its read, and
--- the address at which the parts meet.
+-- What a round takes from the generator's number x: the lengths in DW of the two parts of its read,
+-- and the address in bytes at which the parts meet.
 unfoldable pub drawn : ℕ → Draw
 drawn x =
     let y = x / 2 ^ 32 in
@@ -128,7 +129,7 @@ read k draw = record (plain MRd (draw.before + draw.behind) (k % 256)) {
   address = start draw;
 }
 
--- a completion of `part` DW from this address on, where `left` DW of the read are still to be answered
+-- a completion of `part` DW from this address on, where `left` DW of the read are to be answered yet
 abbrev pub completion : ℕ → ℕ → ℕ → ℕ → Fields
 completion k left address part = record (plain CplD part (k % 256)) {
   byte_count = 4 * left;

@@ -55,4 +55,4 @@ to_make count next.Nothing = []
 
 -- what is left of a capture
 abbrev pub left : Making → List ℕ
-left m = unread m.record ++ to_make m.count m.next
+left m = unread m.at_hand ++ to_make m.count m.next

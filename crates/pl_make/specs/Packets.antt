@@ -1,6 +1,8 @@
 -- The bytes of a packet from its fields, by the tables of fields that the packets are read by.
--- PCI Express Base Specification 5.0, chapter 2 (TLP headers) and chapter 3 (framing, DLLP formats, CRCs).
-use Rattle.std.specs.Prelude.{◌≡◌, ◌⊎◌, ◌≤◌, ℕ, ◌/◌, ◌%◌, false, None, List, [], ◌∷◌, ◌++◌, length, is_some, if◌then◌else◌}
+-- PCI Express Base Specification 5.0, chapter 2 (TLP headers) and chapter 3 (framing, DLLP formats,
+-- CRCs).
+use Rattle.std.specs.Prelude.{◌≡◌, ◌⊎◌, ◌≤◌, ℕ, ◌/◌, ◌%◌, false, None, List, [], ◌∷◌, ◌++◌}
+use Rattle.std.specs.Prelude.{length, is_some, if◌then◌else◌}
 use Rattle.std.specs.Int.{from_bool}
 use Rattle.byteorder.specs.Endian.{big_bytes}
 use Rattle.pl_base.specs.Bits.{bits}
@@ -47,8 +49,8 @@ credit_bytes fc = with_crc (placed 0 4 (credit_fields fc))
 
 -- ---- TLPs
 
--- The fields of a header that isn't a message's. In a field that counts, the largest number is 0; the
--- lowest place of an address is worth 4 bytes; the spare bits are 0.
+-- The fields of a header that isn't a message's. In a field that counts, the largest number is 0;
+-- the lowest place of an address is worth 4 bytes; the spare bits are 0.
 abbrev pub header_fields : Fields → List Field
 header_fields x =
     let layout = layout_of x.kind in
@@ -81,7 +83,7 @@ header_bytes x = placed 0 (if x.wide then 16 else 12) (header_fields x)
 unfoldable pub tlp_bytes : Fields → List ℕ
 tlp_bytes x = x.prefixes ++ header_bytes x ++ x.payload ++ digest_bytes x.digest
 
--- a memory read or a completion with at most 16 DW of data, a header of 3 DW and nothing around these
+-- a memory read or a completion with at most 16 DW of data, a header of 3 DW and nothing else
 pub record IsPlain (x : Fields) : Type 0 where
   pub kind : (x.kind ≡ MRd) ⊎ (x.kind ≡ CplD)
   pub wide : x.wide ≡ false
@@ -89,6 +91,6 @@ pub record IsPlain (x : Fields) : Type 0 where
   pub payload : length x.payload ≤ 64
   pub digest : x.digest ≡ None
 
--- a TLP as the data link layer sends it: its sequence number before it and the LCRC of both behind it
+-- a TLP as the data link layer sends it: its sequence number before it, the LCRC of both behind it
 unfoldable pub framed : ℕ → List ℕ → List ℕ
 framed number tlp = big_bytes 2 number ++ tlp ++ crc32_of (big_bytes 2 number ++ tlp)

@@ -1,6 +1,6 @@
 //! The items of a capture, each made as a record.
-//! PCI Express Base Specification 5.0, chapter 3 (flow control initialization, Ack) and chapter 2 (memory requests,
-//! completions).
+//! PCI Express Base Specification 5.0, chapter 3 (flow control initialization, Ack) and chapter 2
+//! (memory requests, completions).
 ghost use Rattle.pl_base.specs.declared.link.Dir.TheVariants.{Down, Up};
 ghost use Rattle.std.specs.Prelude.{◌≡◌, ◌%◌, ◌<◌, ◌≤◌, ◌+◌, ◌*◌, get_or, length, replicate};
 ghost use Rattle.pl_capture.specs.Record.{record_of};
@@ -90,8 +90,8 @@ fn put_read(time: u64, k: u32, draw: &Draw, out: &mut Record)
     put_tlp(time, Dir::Up, (k % 4096) as u16, &read, out);
 }
 
-/// Makes the record of a completion of `part` DW from `address` on, where `left` DW of the read of round k are still to
-/// be answered.
+/// Makes the record of a completion of `part` DW from `address` on, where `left` DW of the read of
+/// round k are still to be answered.
 fn put_completion(
     time: u64,
     number: u16,
@@ -106,7 +106,8 @@ fn put_completion(
     requires most { part ≤ 16 }
     requires left { part ≤ left }
     requires read { left ≤ 32 }
-    ensures { unread out.new ≡ record_of (spec.tlp time Down number (spec.completion k left address part)) }
+    ensures { unread out.new
+        ≡ record_of (spec.tlp time Down number (spec.completion k left address part)) }
 {
     let data = [(k % 256) as u8; 64];
     let completion = completion(k, left, address, part, &data[..4 * usize::from(part)]);
@@ -127,15 +128,15 @@ fn read(k: u32, draw: &Draw) -> Tlp<'static>
 }
 
 /// A completion with these data, `4 * part` bytes.
-fn completion(k: u32, left: u16, address: u64, part: u16, data: &[u8]) -> Tlp<'_>
+fn completion(k: u32, left: u16, address: u64, part: u16, payload: &[u8]) -> Tlp<'_>
     requires left { left ≤ 32 }
-    requires data { data.now ≡ replicate (4 * part) (k % 256) }
+    requires payload { payload.now ≡ replicate (4 * part) (k % 256) }
     ensures { fields result ≡ spec.completion k left address part }
 {
     Tlp {
         byte_count: 4 * left,
         lower: (address % 128) as u8,
-        payload: data,
+        payload,
         ..plain(Kind::CplD, part, k)
     }
 }

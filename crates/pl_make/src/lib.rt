@@ -1,5 +1,5 @@
-//! Captures that two numbers make, byte by byte while they are read: large valid link traffic to try and time the
-//! analyser with, which takes no memory and no file.
+//! Captures that two numbers make, byte by byte while they are read: large valid link traffic to try
+//! and time the analyser with, which takes no memory and no file.
 #![tactic(auto)]
 
 mod draw;
@@ -14,3 +14,6 @@ mod record;
 
 pub use laws::read_as_items;
 pub use maker::Maker;
+
+#[cfg(test)]
+mod tests;

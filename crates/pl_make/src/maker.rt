@@ -1,5 +1,6 @@
 //! The shelf whose every file is a generated capture.
-ghost use Rattle.std.specs.Prelude.{◌≡◌, ◌≤◌, ◌<◌, List, ℕ, true, false, Some, None, option_map, is_some};
+ghost use Rattle.std.specs.Prelude.{◌≡◌, ◌≤◌, ◌<◌, List, ℕ, true, false, Some, None};
+ghost use Rattle.std.specs.Prelude.{option_map, is_some};
 ghost use Rattle.std.specs.Prelude.{refl, length, take, IfOk, IsOk, IsSome, min};
 ghost use Rattle.std.proofs.Common.{arith};
 
@@ -7,8 +8,8 @@ use crate::making::Making;
 use crate::name::OpenName;
 use pl_io::{Failed, Shelf};
 
-/// A shelf on which the capture of two numbers stands under every name. Its bytes are made while they are read: it keeps
-/// no more than one record of them, and takes no memory.
+/// A shelf on which the capture of two numbers stands under every name. Its bytes are made while
+/// they are read: it keeps no more than one record of them, and takes no memory.
 ///
 /// It tells its files and is sure: no call fails, and its count of faults is 0.
 #[derive(Drop)]
@@ -32,15 +33,17 @@ pub(crate) struct Opened {
 impl Maker {
     ghost use Rattle.pl_make.specs.Generated.{Gen};
 
-    /// A shelf of the capture with this many rounds, 1 to 1,000,000, drawn from `number`. No file is open, and none was
-    /// ever opened.
+    /// A shelf of the capture with this many rounds, 1 to 1,000,000, drawn from `number`. No file is
+    /// open, and none was ever opened.
     ///
-    /// The capture has `12 + 6 * count` items: the bring-up of a link, and for each round a memory read that is answered
-    /// by two completions, their Acks, and the credit that the read took.
+    /// The capture has `12 + 6 * count` items: the bring-up of a link, and for each round a memory
+    /// read that is answered by two completions, their Acks, and the credit that the read took. It
+    /// has at most 272 bytes for each round and 252 besides.
     pub fn new(number: u64, count: u32) -> Maker
         requires some { 1 ≤ count }
         requires most { count ≤ 1000000 }
-        ensures files { (name : List ℕ) → ⟦<Self as Shelf>⟧.file result name ≡ Some (Gen number count) }
+        ensures files { (name : List ℕ) →
+            ⟦<Self as Shelf>⟧.file result name ≡ Some (Gen number count) }
         ensures sure { ⟦<Self as Shelf>⟧.sure result ≡ true }
         ensures closed { ⟦<Self as Shelf>⟧.is_open result ≡ false }
         ensures none_opened { ⟦<Self as Shelf>⟧.opens result ≡ 0 }

@@ -18,7 +18,7 @@ pub(crate) enum Next {
 pub(crate) struct Making {
     /// The rounds of the capture.
     pub count: u32,
-    pub record: Record,
+    pub at_hand: Record,
     pub next: Next,
     ghost some: { 1 ≤ count },
     ghost most: { count ≤ 1000000 },
@@ -36,41 +36,41 @@ impl Making {
     {
         Making {
             count,
-            record: Record::header(),
+            at_hand: Record::header(),
             next: Next::Item(Position::first(number)),
         }
     }
 
-    /// Reads the next bytes into the front of `buf`, none behind the end of a record, and says how many: 0 only at the
-    /// end of the capture.
+    /// Reads the next bytes into the front of `buf`, none behind the end of a record, and says how
+    /// many: 0 only at the end of the capture.
     pub fn read(&mut self, buf: &mut [u8]) -> usize
         requires { 0 < length buf.old }
         ensures most { result ≤ length buf.new }
         ensures bytes { left self.old ≡ take result buf.new ++ left self.new }
         ensures end { result ≡ 0 → left self.old ≡ [] }
     {
-        if self.record.is_read() {
+        if self.at_hand.is_read() {
             self.make();
         }
-        self.record.read(buf)
+        self.at_hand.read(buf)
     }
 
     /// Makes the next record, where all of the one at hand was read.
     fn make(&mut self)
-        requires { unread self.old.record ≡ [] }
+        requires { unread self.old.at_hand ≡ [] }
         ensures same { left self.new ≡ left self.old }
-        ensures some { unread self.new.record ≡ [] → left self.old ≡ [] }
+        ensures some { unread self.new.at_hand ≡ [] → left self.old ≡ [] }
     {
         match self.next {
             Next::Item(position) => {
-                position.put_into(&mut self.record);
+                position.put_into(&mut self.at_hand);
                 match position.next(self.count) {
                     Some(next) => self.next = Next::Item(next),
                     None => self.next = Next::End,
                 }
             }
             Next::End => {
-                self.record.put_end(12 + 6 * u64::from(self.count));
+                self.at_hand.put_end(12 + 6 * u64::from(self.count));
                 self.next = Next::Nothing;
             }
             Next::Nothing => {}

@@ -1,5 +1,6 @@
 //! The bytes of the packets that a generated capture has.
-//! PCI Express Base Specification 5.0, chapter 2 (TLP headers) and chapter 3 (framing, DLLP formats, CRCs).
+//! PCI Express Base Specification 5.0, chapter 2 (TLP headers) and chapter 3 (framing, DLLP formats,
+//! CRCs).
 ghost use Rattle.std.specs.Prelude.{◌≡◌, ◌≤◌, ◌<◌, length, take};
 ghost use Rattle.pl_base.specs.Bits.{value};
 ghost use Rattle.pl_dllp.specs.Frame.{frame, reserved_bits};
@@ -16,23 +17,26 @@ use pl_crc::crc32;
 use pl_dllp::{Dllp, Fc, Stage, encode};
 use pl_tlp::{Tlp, encode_into};
 
-/// The bytes of the longest framed TLP: a sequence number, 3 DW of header, 16 DW of data and an LCRC.
+/// The bytes of the longest framed TLP: a sequence number, 3 DW of header, 16 DW of data, an LCRC.
 pub(crate) const LONGEST: usize = 82;
 
 /// The six bytes of an Ack of this sequence number.
 pub(crate) fn ack(number: u16) -> [u8; 6]
     requires { number < 4096 }
-    ensures { result ≡ ack_bytes number }
+    ensures bytes { result ≡ ack_bytes number }
+    ensures read { frame result ≡ Ok (Ack number) }
 {
     let bytes = encode(&Dllp::Ack(number));
     is_ack(&bytes, number);
     bytes
 }
 
-/// The six bytes of a flow-control DLLP on virtual channel 0 that grants these header and data credits, not scaled.
+/// The six bytes of a flow-control DLLP on virtual channel 0 that grants these header and data
+/// credits, not scaled.
 pub(crate) fn credits(stage: Stage, class: Class, header: u8, units: u16) -> [u8; 6]
     requires { units < 4096 }
-    ensures { result ≡ credit_bytes (spec.credits stage class header units) }
+    ensures bytes { result ≡ credit_bytes (spec.credits stage class header units) }
+    ensures read { frame result ≡ Ok (Flow (spec.credits stage class header units)) }
 {
     let fc = Fc {
         stage,
@@ -65,7 +69,8 @@ fn is_credits(bytes: &[u8], fc: &Fc)
     ensures { bytes.now ≡ credit_bytes fc.now }
 {}
 
-/// Writes a TLP with its sequence number and LCRC at the front of `out`, and says how many bytes these are.
+/// Writes a TLP with its sequence number and LCRC at the front of `out`, and says how many bytes
+/// these are.
 pub(crate) fn frame(number: u16, tlp: &Tlp, out: &mut [u8; LONGEST]) -> usize
     requires number { number < 4096 }
     requires fits { Fits (fields tlp.now) }

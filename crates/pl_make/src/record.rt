@@ -78,7 +78,8 @@ impl Record {
         self.given == self.size
     }
 
-    /// Reads the next bytes into the front of `buf`, as many as are there and as it takes, and says how many.
+    /// Reads the next bytes into the front of `buf`, as many as are there and as it takes, and says
+    /// how many.
     pub fn read(&mut self, buf: &mut [u8]) -> usize
         ensures count { result ≡ min (length (unread self.old)) (length buf.old) }
         ensures bytes { unread self.old ≡ take result buf.new ++ unread self.new }
@@ -96,7 +97,8 @@ impl Record {
     }
 }
 
-/// Copies the front of `bytes` into the front of `buf`, as much as it takes, and says how many bytes.
+/// Copies the front of `bytes` into the front of `buf`, as much as it takes, and says how many
+/// bytes.
 fn copy_front(bytes: &[u8], buf: &mut [u8]) -> usize
     ensures count { result ≡ min (length bytes.now) (length buf.old) }
     ensures bytes { take result buf.new ≡ take result bytes.now }

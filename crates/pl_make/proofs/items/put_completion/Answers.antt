@@ -3,8 +3,8 @@ use Rattle.std.proofs.lemmas.List.{take-replicate}
 use Rattle.pl_make.proofs.Lawful.{completion_fits, completion_plain}
 use Rattle.pl_make.proofs.items.put_completion.Goals as goal
 
-pub completion-completion-requires-clause-data : goal.completion-completion-requires-clause-data
-completion-completion-requires-clause-data c =
+pub completion-completion-requires-clause-payload : goal.completion-completion-requires-clause-payload
+completion-completion-requires-clause-payload c =
     take-replicate (4 * c.from.result) 64 (c.args.k % 256) (omega arith) ∙ ap (λ (n : ℕ). replicate (4 * n) (c.args.k % 256)) c.from.ensures
 
 pub put_tlp-requires-clause-fits : goal.put_tlp-requires-clause-fits
