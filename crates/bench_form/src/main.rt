@@ -10,7 +10,7 @@ ghost use Rattle.pl_tlp.specs.Fields.{outcome};
 ghost use Rattle.pl_tlp.specs.Fit.{FitsIfWhole};
 
 use pl_base::{Dir, Found};
-use pl_form::{add_formation, judge, seen_has_header};
+use pl_form::{judge, judge_into, seen_has_header};
 use pl_profile::Profile;
 use pl_tlp::{View, view};
 use std::time::Instant;
@@ -61,7 +61,7 @@ fn added(profile: &Profile, seen: &View, rounds: u32) -> u64
     let mut found = Found::new();
     for round in 0..rounds {
         found.clear();
-        add_formation(profile, Dir::Up, seen, u64::from(round), &mut found);
+        judge_into(profile, Dir::Up, seen, u64::from(round), &mut found);
         total = total.wrapping_add(folded(&found));
     }
     total

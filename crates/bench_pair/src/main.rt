@@ -8,7 +8,7 @@ ghost use Rattle.std.specs.Prelude.{◌≡◌, ◌<◌, ◌≤◌, true};
 ghost use Rattle.arrayvec.specs.ArrayVec.{array_vec_len};
 ghost use Rattle.pl_tlp.specs.Fields.{fields};
 ghost use Rattle.pl_tlp.specs.Fit.{Fits};
-ghost use Rattle.pl_pair.specs.Kinds as kinds;
+ghost use Rattle.pl_tlp.specs.Groups as kinds;
 
 use pl_base::{Dir, Found};
 use pl_pair::Pairs;
@@ -37,7 +37,7 @@ fn main(rt: HostRuntime) -> io::Result<()> {
 }
 
 /// A read of 16 DW: 256 tags of each requester, one after the other.
-#[tactic(auto, unfolding(pl_tlp::specs::Bits::bits))]
+#[tactic(auto, unfolding(pl_base::specs::Bits::bits))]
 fn read(number: u32) -> Tlp<'static>
     ensures needs { kinds.needs_completion result.kind ≡ true }
     ensures tag { result.tag < 256 }
@@ -72,7 +72,7 @@ fn read(number: u32) -> Tlp<'static>
 }
 
 /// The completion of all of it.
-#[tactic(auto, unfolding(pl_tlp::specs::Bits::bits))]
+#[tactic(auto, unfolding(pl_base::specs::Bits::bits))]
 fn completion(number: u32) -> Tlp<'static>
     ensures is { kinds.is_completion result.kind ≡ true }
     ensures tag { result.tag < 256 }

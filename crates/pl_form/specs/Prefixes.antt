@@ -1,6 +1,7 @@
 -- TLP prefixes: local ones stand before End-End ones.
 -- PCI Express Base Specification 5.0, chapter 2: TLP prefix rules.
-use Rattle.std.specs.Prelude.{ℕ, Bool, false, not, ◌&&◌, ◌||◌, ◌==◌, nat_lt, List, [], ◌∷◌, count_by}
+use Rattle.std.specs.Prelude.{ℕ, Bool, false, not, ◌&&◌, ◌||◌, ◌==◌, nat_lt, List, [], ◌∷◌}
+use Rattle.std.specs.Prelude.{count_by}
 use Rattle.std.specs.Int.{bit_at}
 use Rattle.pl_tlp.specs.Fields.{Fields}
 
@@ -16,11 +17,14 @@ end_ends cut = []
 -- whether a local prefix stands after an End-End one; `seen` is whether one stood before these
 abbrev pub has_late_local : Bool → List Bool → Bool
 has_late_local seen [] = false
-has_late_local seen (end_end ∷ rest) = (seen && not end_end) || has_late_local (seen || end_end) rest
+has_late_local seen (end_end ∷ rest) =
+    (seen && not end_end) || has_late_local (seen || end_end) rest
 
 abbrev pub end_end_count : List Bool → ℕ
 end_end_count prefixes = count_by (λ end_end. end_end) prefixes
 
 -- M19: a local prefix stands after an End-End one, or there are more than four End-End ones
 abbrev pub breaks_m19 : Fields → Bool
-breaks_m19 x = let prefixes = end_ends x.prefixes in has_late_local false prefixes || nat_lt 4 (end_end_count prefixes)
+breaks_m19 x =
+    let prefixes = end_ends x.prefixes in
+    has_late_local false prefixes || nat_lt 4 (end_end_count prefixes)

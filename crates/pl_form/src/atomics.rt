@@ -1,53 +1,58 @@
-//! The rules M11 and M12: the size and the place of the operands of AtomicOps.
+//! The rules M11 and M12: the size and the address of the operands of AtomicOps.
 //! PCI Express Base Specification 5.0, chapter 2, transaction layer protocol: AtomicOp requests.
-ghost use Rattle.std.specs.Prelude.{◌≡◌, ◌==◌, ◌%◌, ◌+◌, ◌≤◌, ◌++◌, true};
+ghost use Rattle.std.specs.Prelude.{◌≡◌, ◌==◌, ◌%◌, ◌+◌, ◌≤◌, ◌++◌, None, true};
 ghost use Rattle.arrayvec.specs.ArrayVec.{array_vec_len};
 ghost use Rattle.pl_tlp.specs.Fields.{fields};
 ghost use Rattle.pl_form.specs.Atomics as spec;
-ghost use Rattle.pl_form.specs.Kinds as spec_kinds;
-ghost use Rattle.pl_form.specs.Verdicts.{atomic_verdicts, memory_verdicts};
+ghost use Rattle.pl_tlp.specs.Groups as spec_kinds;
+ghost use Rattle.pl_form.specs.Memory.{breaks_m6, is_too_long};
+ghost use Rattle.pl_form.specs.Verdicts.{atomic_verdicts};
+ghost use Rattle.pl_base.specs.Verdict.{verdict_if};
 
-use crate::kinds::{is_atomic, is_compare_and_swap};
 use crate::memory::{breaks_m6, is_too_long};
-use crate::verdict::add_if;
-use pl_base::{Dir, Found, Rule};
+use pl_base::{Dir, Found, MOST_VERDICTS, Rule, add_if};
 use pl_profile::Profile;
 use pl_tlp::Tlp;
 
 /// Adds what an AtomicOp breaks of M3 to M8: M3 and M6.
 pub(crate) fn judge_operands(profile: &Profile, dir: Dir, tlp: &Tlp, at: u64, found: &mut Found)
     requires kind { spec_kinds.is_atomic tlp.now.kind ≡ true }
-    requires room { array_vec_len found.old ≤ 26 }
-    ensures items { found.new.items ≡ found.old.items ++ memory_verdicts profile.now dir (fields tlp.now) at }
+    requires room { array_vec_len found.old + 2 ≤ MOST_VERDICTS }
+    ensures items { found.new.items
+        ≡ found.old.items
+        ++ (verdict_if (is_too_long profile.now dir (fields tlp.now)) Rule.M3 at None None
+        ++ verdict_if (breaks_m6 (fields tlp.now)) Rule.M6 at None None) }
     ensures most { array_vec_len found.new ≤ array_vec_len found.old + 2 }
 {
-    add_if(is_too_long(profile, dir, tlp), Rule::M3, at, found);
-    add_if(breaks_m6(tlp), Rule::M6, at, found);
+    let too_long = is_too_long(profile, dir, tlp);
+    add_if(found, too_long, Rule::M3, at, None, None);
+    add_if(found, breaks_m6(tlp), Rule::M6, at, None, None);
 }
 
 /// Adds what a TLP breaks of M11 and M12.
 #[tactic(auto, unfolding(crate::specs::Verdicts::atomic_verdicts))]
 pub(crate) fn judge_atomic(tlp: &Tlp, at: u64, found: &mut Found)
-    requires { array_vec_len found.old ≤ 30 }
+    requires { array_vec_len found.old + 2 ≤ MOST_VERDICTS }
     ensures items { found.new.items ≡ found.old.items ++ atomic_verdicts (fields tlp.now) at }
     ensures most { array_vec_len found.new ≤ array_vec_len found.old + 2 }
 {
-    add_if(breaks_m11(tlp), Rule::M11, at, found);
-    add_if(breaks_m12(tlp), Rule::M12, at, found);
+    add_if(found, breaks_m11(tlp), Rule::M11, at, None, None);
+    add_if(found, breaks_m12(tlp), Rule::M12, at, None, None);
 }
 
 /// M11: an AtomicOp whose Length is that of no operand.
 fn breaks_m11(tlp: &Tlp) -> bool
     ensures { result ≡ spec.breaks_m11 (fields tlp.now) }
 {
-    is_atomic(tlp.kind) && !has_operand_length(tlp)
+    tlp.kind.is_atomic() && !has_operand_length(tlp)
 }
 
-/// Whether the Length is that of one operand of 1 or 2 DW, or for Cas of two operands of 1, 2 or 4 DW.
+/// Whether the Length is that of one operand of 1 or 2 DW, or for Cas of two operands of 1, 2 or 4
+/// DW.
 fn has_operand_length(tlp: &Tlp) -> bool
     ensures { result ≡ spec.has_operand_length (fields tlp.now) }
 {
-    if is_compare_and_swap(tlp.kind) {
+    if tlp.kind.is_compare_and_swap() {
         matches!(tlp.length, 2 | 4 | 8)
     } else {
         matches!(tlp.length, 1 | 2)
@@ -58,7 +63,7 @@ fn has_operand_length(tlp: &Tlp) -> bool
 fn breaks_m12(tlp: &Tlp) -> bool
     ensures { result ≡ spec.breaks_m12 (fields tlp.now) }
 {
-    is_atomic(tlp.kind) && has_operand_length(tlp) && !is_aligned(tlp)
+    tlp.kind.is_atomic() && has_operand_length(tlp) && !is_aligned(tlp)
 }
 
 /// Whether the address is a multiple of the operand.
@@ -66,7 +71,7 @@ fn is_aligned(tlp: &Tlp) -> bool
     requires { spec.has_operand_length (fields tlp.now) ≡ true }
     ensures { result ≡ (fields tlp.now).address % spec.operand_bytes (fields tlp.now) == 0 }
 {
-    let operand = if is_compare_and_swap(tlp.kind) {
+    let operand = if tlp.kind.is_compare_and_swap() {
         2 * u64::from(tlp.length)
     } else {
         4 * u64::from(tlp.length)

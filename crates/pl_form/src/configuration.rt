@@ -1,37 +1,36 @@
 //! The rules M9 and M10: I/O and Configuration requests, whose fields are mostly fixed.
-//! PCI Express Base Specification 5.0, chapter 2, transaction layer protocol: I/O requests, Configuration
-//! requests.
+//! PCI Express Base Specification 5.0, chapter 2, transaction layer protocol: I/O requests,
+//! Configuration requests.
 ghost use Rattle.std.specs.Prelude.{◌≡◌, ◌+◌, ◌≤◌, ◌++◌};
 ghost use Rattle.arrayvec.specs.ArrayVec.{array_vec_len};
 ghost use Rattle.pl_tlp.specs.Fields.{fields};
 ghost use Rattle.pl_form.specs.Configuration as spec;
 ghost use Rattle.pl_form.specs.Verdicts.{configuration_verdicts};
 
-use crate::kinds::{is_configuration_request, is_io_request};
-use crate::verdict::add_if;
-use pl_base::{Dir, Found, Rule};
+use pl_base::{Dir, Found, MOST_VERDICTS, Rule, add_if};
 use pl_tlp::Tlp;
 
 /// Adds what a TLP breaks of M9 and M10.
 #[tactic(auto, unfolding(crate::specs::Verdicts::configuration_verdicts))]
 pub(crate) fn judge_configuration(dir: Dir, tlp: &Tlp, at: u64, found: &mut Found)
-    requires { array_vec_len found.old ≤ 30 }
-    ensures items { found.new.items ≡ found.old.items ++ configuration_verdicts dir (fields tlp.now) at }
+    requires { array_vec_len found.old + 2 ≤ MOST_VERDICTS }
+    ensures items { found.new.items
+        ≡ found.old.items ++ configuration_verdicts dir (fields tlp.now) at }
     ensures most { array_vec_len found.new ≤ array_vec_len found.old + 2 }
 {
-    add_if(breaks_m9(tlp), Rule::M9, at, found);
-    add_if(breaks_m10(dir, tlp), Rule::M10, at, found);
+    add_if(found, breaks_m9(tlp), Rule::M9, at, None, None);
+    add_if(found, breaks_m10(dir, tlp), Rule::M10, at, None, None);
 }
 
 /// M9: an I/O or Configuration request with another value in a fixed field.
 fn breaks_m9(tlp: &Tlp) -> bool
     ensures { result ≡ spec.breaks_m9 (fields tlp.now) }
 {
-    (is_io_request(tlp.kind) || is_configuration_request(tlp.kind)) && !has_fixed_fields(tlp)
+    tlp.kind.is_io_or_configuration_request() && !has_fixed_fields(tlp)
 }
 
-/// Whether it is one DW in TC 0, with neither relaxed ordering nor no snoop, untranslated, and with no
-/// byte enables of a last DW.
+/// Whether it is one DW in TC 0, with neither relaxed ordering nor no snoop, untranslated, and with
+/// no byte enables of a last DW.
 fn has_fixed_fields(tlp: &Tlp) -> bool
     ensures { result ≡ spec.has_fixed_fields (fields tlp.now) }
 {
@@ -42,5 +41,5 @@ fn has_fixed_fields(tlp: &Tlp) -> bool
 fn breaks_m10(dir: Dir, tlp: &Tlp) -> bool
     ensures { result ≡ spec.breaks_m10 dir (fields tlp.now) }
 {
-    is_configuration_request(tlp.kind) && matches!(dir, Dir::Up)
+    tlp.kind.is_configuration_request() && matches!(dir, Dir::Up)
 }

@@ -29,7 +29,8 @@ fn is_wrong(digest: &[u8; 4], tlp: &Tlp) -> bool
     digest.as_slice() != ecrc(tlp).as_slice()
 }
 
-/// The ECRC over the End-End prefixes, the header with its two variant bits taken as 1, and the data.
+/// The ECRC over the End-End prefixes, the header with its two variant bits taken as 1, and the
+/// data.
 fn ecrc(tlp: &Tlp) -> [u8; 4]
     requires { 12 ≤ length tlp.now.header.now }
     ensures { result ≡ spec.ecrc_of (fields tlp.now) }
@@ -59,7 +60,8 @@ fn end_end_prefixes(prefixes: &[u8]) -> Crc32
 /// Adds a prefix where it is End-End.
 fn add_end_end(crc: &mut Crc32, prefix: &[u8])
     requires { 0 < length prefix.now }
-    ensures { (given : List ℕ) → StandsFor crc.old given → StandsFor crc.new (given ++ spec.if_end_end prefix.now) }
+    ensures { (given : List ℕ) → StandsFor crc.old given
+        → StandsFor crc.new (given ++ spec.if_end_end prefix.now) }
 {
     if is_end_end(prefix[0]) {
         crc.update(prefix);

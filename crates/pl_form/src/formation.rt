@@ -4,7 +4,8 @@ ghost use Rattle.std.specs.Prelude.{◌≡◌, ◌+◌, ◌≤◌, ◌++◌, len
 ghost use Rattle.arrayvec.specs.ArrayVec.{array_vec_len};
 ghost use Rattle.pl_tlp.specs.Fields.{fields, outcome, Whole};
 ghost use Rattle.pl_tlp.specs.Fit.{Fits, FitsIfWhole};
-ghost use Rattle.pl_form.specs.Verdicts.{formation_verdicts, kind_verdicts, other_verdicts, whole_verdicts, HasHeaderIfWhole};
+ghost use Rattle.pl_form.specs.Verdicts.{formation_verdicts, kind_verdicts, other_verdicts};
+ghost use Rattle.pl_form.specs.Verdicts.{whole_verdicts, HasHeaderIfWhole};
 
 use crate::atomics::{judge_atomic, judge_operands};
 use crate::configuration::judge_configuration;
@@ -13,40 +14,44 @@ use crate::memory::{is_too_long, judge_memory};
 use crate::messages::judge_message;
 use crate::prefixes::breaks_m19;
 use crate::traffic::{breaks_m16, breaks_m17, breaks_m20};
-use crate::verdict::add_if;
-use pl_base::{Dir, Found, Rule};
+use pl_base::{Dir, Found, MOST_VERDICTS, Rule, add_if};
 use pl_profile::Profile;
 use pl_tlp::{Kind, Tlp, View};
 
-/// The verdicts on the TLP of item `at`, which travels in direction `dir`: the formation rules that it
-/// breaks, in their order, and each cites nothing.
+/// The most formation rules that one TLP can break.
+pub const MOST_OF_A_TLP: usize = 18;
+
+/// The verdicts on the TLP of item `at`, which travels in direction `dir`: the formation rules that
+/// it breaks, in their order, and each cites nothing.
 ///
-/// [`add_formation`] gives the same into a list that is there already, without filling and copying one.
+/// [`judge_into`] gives the same into a list that is there already, without filling and copying
+/// one.
 pub fn judge(profile: &Profile, dir: Dir, view: &View, at: u64) -> Found
     requires fits { FitsIfWhole (outcome view.now) }
     requires header { HasHeaderIfWhole (outcome view.now) }
     ensures verdicts { result.items ≡ formation_verdicts profile.now dir (outcome view.now) at }
-    ensures most { array_vec_len result ≤ 18 }
+    ensures most { array_vec_len result ≤ MOST_OF_A_TLP }
 {
     let mut found = Found::new();
-    add_formation(profile, dir, view, at, &mut found);
+    judge_into(profile, dir, view, at, &mut found);
     found
 }
 
-/// Adds the verdicts on the TLP of item `at`, which travels in direction `dir`, to those that were found
-/// before: the formation rules that it breaks, in their order, and each cites nothing.
+/// Adds the verdicts on the TLP of item `at`, which travels in direction `dir`, to those that were
+/// found before: the formation rules that it breaks, in their order, and each cites nothing.
 #[tactic(auto, unfolding(crate::specs::Verdicts::formation_verdicts, crate::specs::Verdicts::whole_verdicts))]
-pub fn add_formation(profile: &Profile, dir: Dir, view: &View, at: u64, found: &mut Found)
+pub fn judge_into(profile: &Profile, dir: Dir, view: &View, at: u64, found: &mut Found)
     requires fits { FitsIfWhole (outcome view.now) }
     requires header { HasHeaderIfWhole (outcome view.now) }
-    requires room { array_vec_len found.old ≤ 14 }
-    ensures verdicts { found.new.items ≡ found.old.items ++ formation_verdicts profile.now dir (outcome view.now) at }
-    ensures most { array_vec_len found.new ≤ array_vec_len found.old + 18 }
+    requires room { array_vec_len found.old + MOST_OF_A_TLP ≤ MOST_VERDICTS }
+    ensures verdicts { found.new.items
+        ≡ found.old.items ++ formation_verdicts profile.now dir (outcome view.now) at }
+    ensures most { array_vec_len found.new ≤ array_vec_len found.old + MOST_OF_A_TLP }
 {
     match view {
         View::Whole(tlp) => judge_whole(profile, dir, tlp, at, found),
-        View::Undefined => add_if(true, Rule::M1, at, found),
-        View::WrongSize => add_if(true, Rule::M2, at, found),
+        View::Undefined => add_if(found, true, Rule::M1, at, None, None),
+        View::WrongSize => add_if(found, true, Rule::M2, at, None, None),
     }
 }
 
@@ -55,9 +60,10 @@ pub fn add_formation(profile: &Profile, dir: Dir, view: &View, at: u64, found: &
 fn judge_whole(profile: &Profile, dir: Dir, tlp: &Tlp, at: u64, found: &mut Found)
     requires fits { Fits (fields tlp.now) }
     requires header { 12 ≤ length tlp.now.header.now }
-    requires room { array_vec_len found.old ≤ 14 }
-    ensures items { found.new.items ≡ found.old.items ++ whole_verdicts profile.now dir (Whole (fields tlp.now)) at }
-    ensures most { array_vec_len found.new ≤ array_vec_len found.old + 18 }
+    requires room { array_vec_len found.old + MOST_OF_A_TLP ≤ MOST_VERDICTS }
+    ensures items { found.new.items
+        ≡ found.old.items ++ whole_verdicts profile.now dir (Whole (fields tlp.now)) at }
+    ensures most { array_vec_len found.new ≤ array_vec_len found.old + MOST_OF_A_TLP }
 {
     judge_kind(profile, dir, tlp, at, found);
     judge_other(profile, dir, tlp, at, found);
@@ -67,8 +73,9 @@ fn judge_whole(profile: &Profile, dir: Dir, tlp: &Tlp, at: u64, found: &mut Foun
 #[tactic(auto, unfolding(crate::specs::Verdicts::kind_verdicts, crate::specs::Verdicts::memory_verdicts, crate::specs::Verdicts::configuration_verdicts, crate::specs::Verdicts::atomic_verdicts, crate::specs::Verdicts::message_verdicts))]
 fn judge_kind(profile: &Profile, dir: Dir, tlp: &Tlp, at: u64, found: &mut Found)
     requires length { 1 ≤ tlp.now.length }
-    requires room { array_vec_len found.old ≤ 19 }
-    ensures items { found.new.items ≡ found.old.items ++ kind_verdicts profile.now dir (fields tlp.now) at }
+    requires room { array_vec_len found.old + 13 ≤ MOST_VERDICTS }
+    ensures items { found.new.items
+        ≡ found.old.items ++ kind_verdicts profile.now dir (fields tlp.now) at }
     ensures most { array_vec_len found.new ≤ array_vec_len found.old + 13 }
 {
     match tlp.kind {
@@ -83,7 +90,8 @@ fn judge_kind(profile: &Profile, dir: Dir, tlp: &Tlp, at: u64, found: &mut Found
         }
         Kind::Msg => judge_message(dir, tlp, at, found),
         Kind::MsgD => {
-            add_if(is_too_long(profile, dir, tlp), Rule::M3, at, found);
+            let too_long = is_too_long(profile, dir, tlp);
+            add_if(found, too_long, Rule::M3, at, None, None);
             judge_message(dir, tlp, at, found);
         }
         Kind::Cpl | Kind::CplD | Kind::CplLk | Kind::CplDLk => {}
@@ -95,13 +103,15 @@ fn judge_kind(profile: &Profile, dir: Dir, tlp: &Tlp, at: u64, found: &mut Found
 fn judge_other(profile: &Profile, dir: Dir, tlp: &Tlp, at: u64, found: &mut Found)
     requires fits { Fits (fields tlp.now) }
     requires header { 12 ≤ length tlp.now.header.now }
-    requires room { array_vec_len found.old ≤ 27 }
-    ensures items { found.new.items ≡ found.old.items ++ other_verdicts profile.now dir (fields tlp.now) at }
+    requires room { array_vec_len found.old + 5 ≤ MOST_VERDICTS }
+    ensures items { found.new.items
+        ≡ found.old.items ++ other_verdicts profile.now dir (fields tlp.now) at }
     ensures most { array_vec_len found.new ≤ array_vec_len found.old + 5 }
 {
-    add_if(breaks_m16(profile, tlp), Rule::M16, at, found);
-    add_if(breaks_m17(profile, dir, tlp), Rule::M17, at, found);
-    add_if(breaks_m18(tlp), Rule::M18, at, found);
-    add_if(breaks_m19(tlp), Rule::M19, at, found);
-    add_if(breaks_m20(profile, tlp), Rule::M20, at, found);
+    add_if(found, breaks_m16(profile, tlp), Rule::M16, at, None, None);
+    let too_long = breaks_m17(profile, dir, tlp);
+    add_if(found, too_long, Rule::M17, at, None, None);
+    add_if(found, breaks_m18(tlp), Rule::M18, at, None, None);
+    add_if(found, breaks_m19(tlp), Rule::M19, at, None, None);
+    add_if(found, breaks_m20(profile, tlp), Rule::M20, at, None, None);
 }

@@ -6,16 +6,14 @@ mod atomics;
 mod configuration;
 mod digest;
 mod formation;
-mod kinds;
 mod laws;
 mod memory;
 mod messages;
 mod prefixes;
 mod table;
 mod traffic;
-mod verdict;
 
-pub use formation::{add_formation, judge};
+pub use formation::{MOST_OF_A_TLP, judge, judge_into};
 pub use laws::seen_has_header;
 
 #[cfg(test)]

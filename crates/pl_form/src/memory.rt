@@ -1,16 +1,14 @@
 //! The rules M3 to M8: how much a TLP carries or reads, where, and which bytes.
-//! PCI Express Base Specification 5.0, chapter 2, transaction layer protocol: TLPs with data payloads,
-//! memory requests, byte enables.
+//! PCI Express Base Specification 5.0, chapter 2, transaction layer protocol: TLPs with data
+//! payloads, memory requests, byte enables.
 ghost use Rattle.std.specs.Prelude.{◌≡◌, ◌+◌, ◌≤◌, ◌++◌, ◌||◌, true};
 ghost use Rattle.arrayvec.specs.ArrayVec.{array_vec_len};
 ghost use Rattle.pl_tlp.specs.Fields.{fields};
-ghost use Rattle.pl_form.specs.Kinds.{is_atomic, is_memory_request};
+ghost use Rattle.pl_tlp.specs.Groups.{is_atomic, is_memory_request};
 ghost use Rattle.pl_form.specs.Memory as spec;
 ghost use Rattle.pl_form.specs.Verdicts.{memory_verdicts};
 
-use crate::kinds::is_memory_read;
-use crate::verdict::add_if;
-use pl_base::{Dir, Found, Rule};
+use pl_base::{Dir, Found, MOST_VERDICTS, Rule, add_if};
 use pl_profile::Profile;
 use pl_tlp::{Kind, Tlp};
 
@@ -22,18 +20,21 @@ const TRANSLATION_REQUEST: u8 = 1;
 pub(crate) fn judge_memory(profile: &Profile, dir: Dir, tlp: &Tlp, at: u64, found: &mut Found)
     requires request { is_memory_request tlp.now.kind ≡ true }
     requires length { 1 ≤ tlp.now.length }
-    requires room { array_vec_len found.old ≤ 26 }
-    ensures items { found.new.items ≡ found.old.items ++ memory_verdicts profile.now dir (fields tlp.now) at }
+    requires room { array_vec_len found.old + 6 ≤ MOST_VERDICTS }
+    ensures items { found.new.items
+        ≡ found.old.items ++ memory_verdicts profile.now dir (fields tlp.now) at }
     ensures most { array_vec_len found.new ≤ array_vec_len found.old + 6 }
 {
-    add_if(breaks_m3(profile, dir, tlp), Rule::M3, at, found);
+    let too_long = breaks_m3(profile, dir, tlp);
+    add_if(found, too_long, Rule::M3, at, None, None);
     if tlp.at != TRANSLATION_REQUEST {
-        add_if(breaks_m4(profile, dir, tlp), Rule::M4, at, found);
-        add_if(breaks_m5(tlp), Rule::M5, at, found);
-        add_if(breaks_m6(tlp), Rule::M6, at, found);
+        let too_much = breaks_m4(profile, dir, tlp);
+        add_if(found, too_much, Rule::M4, at, None, None);
+        add_if(found, breaks_m5(tlp), Rule::M5, at, None, None);
+        add_if(found, breaks_m6(tlp), Rule::M6, at, None, None);
         if !tlp.th {
-            add_if(breaks_m7(tlp), Rule::M7, at, found);
-            add_if(breaks_m8(tlp), Rule::M8, at, found);
+            add_if(found, breaks_m7(tlp), Rule::M7, at, None, None);
+            add_if(found, breaks_m8(tlp), Rule::M8, at, None, None);
         }
     }
 }
@@ -58,7 +59,8 @@ fn breaks_m4(profile: &Profile, dir: Dir, tlp: &Tlp) -> bool
     requires { spec.is_judged (fields tlp.now) ≡ true }
     ensures { result ≡ spec.breaks_m4 profile.now dir (fields tlp.now) }
 {
-    is_memory_read(tlp.kind) && 4 * u32::from(tlp.length) > u32::from(profile.max_read[dir.index()])
+    tlp.kind.is_memory_read()
+        && 4 * u32::from(tlp.length) > u32::from(profile.max_read[dir.index()])
 }
 
 /// M5: a memory request that goes on behind a boundary of 4 KB.

@@ -1,12 +1,11 @@
 //! The rules M16, M17 and M20: traffic classes, completions with data, and tags.
-//! PCI Express Base Specification 5.0, chapter 2, transaction layer protocol: TC to VC mapping, TLPs with
-//! data payloads, transaction descriptor.
+//! PCI Express Base Specification 5.0, chapter 2, transaction layer protocol: TC to VC mapping,
+//! TLPs with data payloads, transaction descriptor.
 ghost use Rattle.std.specs.Prelude.{◌≡◌};
 ghost use Rattle.pl_tlp.specs.Fields.{fields};
 ghost use Rattle.pl_tlp.specs.Fit.{Fits};
 ghost use Rattle.pl_form.specs.Traffic as spec;
 
-use crate::kinds::{is_completion_with_data, needs_completion};
 use crate::memory::is_too_long;
 use pl_base::Dir;
 use pl_profile::Profile;
@@ -16,7 +15,7 @@ use pl_tlp::Tlp;
 const NO_CHANNEL: u8 = 8;
 
 /// M16: the TC has no VC.
-#[tactic(auto, unfolding(pl_tlp::specs::Bits::bits))]
+#[tactic(auto, unfolding(pl_base::specs::Bits::bits))]
 pub(crate) fn breaks_m16(profile: &Profile, tlp: &Tlp) -> bool
     requires { Fits (fields tlp.now) }
     ensures { result ≡ spec.breaks_m16 profile.now (fields tlp.now) }
@@ -28,12 +27,12 @@ pub(crate) fn breaks_m16(profile: &Profile, tlp: &Tlp) -> bool
 pub(crate) fn breaks_m17(profile: &Profile, dir: Dir, tlp: &Tlp) -> bool
     ensures { result ≡ spec.breaks_m17 profile.now dir (fields tlp.now) }
 {
-    is_completion_with_data(tlp.kind) && is_too_long(profile, dir, tlp)
+    tlp.kind.is_completion_with_data() && is_too_long(profile, dir, tlp)
 }
 
 /// M20: a request that needs a completion uses Tag[7:5], where the requester has five bits of tag.
 pub(crate) fn breaks_m20(profile: &Profile, tlp: &Tlp) -> bool
     ensures { result ≡ spec.breaks_m20 profile.now (fields tlp.now) }
 {
-    profile.tag_bits == 5 && needs_completion(tlp.kind) && tlp.tag / 32 % 8 != 0
+    profile.tag_bits == 5 && tlp.kind.needs_completion() && tlp.tag / 32 % 8 != 0
 }

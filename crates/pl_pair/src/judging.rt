@@ -65,8 +65,10 @@ pub(crate) fn judge_part(found: &mut Found, boundary: u8, opened: &OpenRequest, 
 impl Broken {
     /// Whether it is at least one.
     fn any(&self) -> bool
-        ensures some { result ≡ true → (opened : OpenRequest) (at : ℕ) → held opened at self.now ≢ [] }
-        ensures none { result ≡ false → (opened : OpenRequest) (at : ℕ) → held opened at self.now ≡ [] }
+        ensures some { result ≡ true → (opened : OpenRequest) (at : ℕ)
+            → held opened at self.now ≢ [] }
+        ensures none { result ≡ false → (opened : OpenRequest) (at : ℕ)
+            → held opened at self.now ≡ [] }
     {
         self.c3 || self.c4 || self.c5 || self.c6 || self.c7 || self.c8 || self.c9 || self.c10
     }
@@ -109,7 +111,8 @@ fn broken_by(boundary: u8, opened: &OpenRequest, tlp: &Tlp) -> Broken
     ensures c6 { result.c6 ≡ spec.breaks_c6 opened.now.request opened.now.got (fields tlp.now) }
     ensures c7 { result.c7 ≡ spec.breaks_c7 opened.now.request opened.now.got (fields tlp.now) }
     ensures c8 { result.c8 ≡ spec.breaks_c8 opened.now.request (fields tlp.now) }
-    ensures c9 { result.c9 ≡ spec.breaks_c9 boundary opened.now.request opened.now.got (fields tlp.now) }
+    ensures c9 { result.c9
+        ≡ spec.breaks_c9 boundary opened.now.request opened.now.got (fields tlp.now) }
     ensures c10 { result.c10 ≡ spec.breaks_c10 opened.now.request (fields tlp.now) }
 {
     let request = &opened.request;
@@ -185,7 +188,8 @@ fn counts_broken_by(boundary: u8, opened: &OpenRequest, tlp: &Tlp) -> Counts
     requires fits { Fits (fields tlp.now) }
     ensures c6 { result.c6 ≡ spec.breaks_c6 opened.now.request opened.now.got (fields tlp.now) }
     ensures c7 { result.c7 ≡ spec.breaks_c7 opened.now.request opened.now.got (fields tlp.now) }
-    ensures c9 { result.c9 ≡ spec.breaks_c9 boundary opened.now.request opened.now.got (fields tlp.now) }
+    ensures c9 { result.c9
+        ≡ spec.breaks_c9 boundary opened.now.request opened.now.got (fields tlp.now) }
 {
     let request = &opened.request;
     if !is_counted(request, tlp) {

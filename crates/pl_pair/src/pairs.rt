@@ -201,7 +201,8 @@ impl Pairs {
         requires few { array_vec_len found.old + MOST_OF_A_COMPLETION ≤ MOST_VERDICTS }
         ensures verdicts { (past : List Event) → StandsFor self.old past
             → found.new.items
-            ≡ found.old.items ++ pair_verdicts profile.now past (Completion dir (fields tlp.now) at) }
+            ≡ found.old.items
+            ++ pair_verdicts profile.now past (Completion dir (fields tlp.now) at) }
         ensures stands { (past : List Event) → StandsFor self.old past
             → StandsFor self.new (Completion dir (fields tlp.now) at ∷ past) }
         ensures few { array_vec_len found.new ≤ array_vec_len found.old + MOST_OF_A_COMPLETION }

@@ -3,7 +3,8 @@ use Rattle.std.specs.Prelude.{ℕ, List, [], ◌++◌, Option, Some, None, codes
 use Rattle.pl_base.specs.Rule.{name_of}
 use Rattle.pl_base.specs.Stop.{form_number, malformed_number}
 use Rattle.pl_base.specs.declared.stop.Stop.{Stop}
-use Rattle.pl_base.specs.declared.stop.Stop.TheVariants.{Malformed, Unsupported, Outstanding, Unacknowledged, Memory}
+use Rattle.pl_base.specs.declared.stop.Stop.TheVariants.{Malformed, Unsupported, Outstanding}
+use Rattle.pl_base.specs.declared.stop.Stop.TheVariants.{Unacknowledged, Memory}
 use Rattle.pl_base.specs.declared.verdict.Verdict.{Verdict}
 
 -- a cited item: its number, or a dash where none is cited
@@ -18,10 +19,12 @@ verdict_text v =
 
 -- after a capture that was read to its end
 unfoldable pub closing_text : ℕ → ℕ → List ℕ
-closing_text items verdicts = codes "end items " ++ decimal items ++ codes " verdicts " ++ decimal verdicts ++ codes "\n"
+closing_text items verdicts =
+    codes "end items " ++ decimal items ++ codes " verdicts " ++ decimal verdicts ++ codes "\n"
 
 abbrev pub refusal_text : List ℕ → ℕ → ℕ → List ℕ
-refusal_text name number item = name ++ codes " " ++ decimal number ++ codes " at item " ++ decimal item ++ codes "\n"
+refusal_text name number item =
+    name ++ codes " " ++ decimal number ++ codes " at item " ++ decimal item ++ codes "\n"
 
 -- a refusal in the capture; nothing is written for want of memory
 unfoldable pub stop_text : Stop → List ℕ
@@ -42,4 +45,6 @@ unfoldable pub read_fault_text : List ℕ
 read_fault_text = codes "read fault\n"
 
 unfoldable pub usage_text : List ℕ
-usage_text = codes "usage: check PROFILE CAPTURE | list PROFILE CAPTURE FILTER | report PROFILE CAPTURE | trial NUMBER COUNT | serve ADDRESS STORE TURNS\n"
+usage_text =
+    codes "usage: check PROFILE CAPTURE | list PROFILE CAPTURE FILTER"
+    ++ codes " | report PROFILE CAPTURE | trial NUMBER COUNT | serve ADDRESS STORE TURNS\n"

@@ -1,4 +1,5 @@
-//! What the program writes, line by line: verdicts, closing lines and refusals, each by its exact bytes.
+//! What the program writes, line by line: verdicts, closing lines and refusals, each by its exact
+//! bytes.
 //!
 //! Numbers are decimal without leading zeros, and every line ends with LF.
 #![tactic(auto)]

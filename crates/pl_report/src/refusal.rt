@@ -1,6 +1,7 @@
 //! The lines of the refusals.
 ghost use Rattle.std.specs.Prelude.{◌≡◌, ◌≤◌, length};
-ghost use Rattle.pl_report.specs.Lines.{refusal_text, stop_text, profile_error_text, length_text, read_fault_text, usage_text};
+ghost use Rattle.pl_report.specs.Lines.{refusal_text, stop_text, profile_error_text, length_text};
+ghost use Rattle.pl_report.specs.Lines.{read_fault_text, usage_text};
 
 use crate::line::{Line, push_number};
 use pl_base::Stop;
@@ -75,5 +76,6 @@ pub fn read_fault_line() -> &'static str
 pub fn usage_line() -> &'static str
     ensures { result.now ≡ usage_text }
 {
-    "usage: check PROFILE CAPTURE | list PROFILE CAPTURE FILTER | report PROFILE CAPTURE | trial NUMBER COUNT | serve ADDRESS STORE TURNS\n"
+    "usage: check PROFILE CAPTURE | list PROFILE CAPTURE FILTER \
+     | report PROFILE CAPTURE | trial NUMBER COUNT | serve ADDRESS STORE TURNS\n"
 }

@@ -171,7 +171,8 @@ fn tag_of(header: &[u8], byte: usize) -> u16
     requires short { 12 ≤ length header.now }
     requires byte { byte < 12 }
     ensures { result
-        ≡ value (spec_bits.bits 1 7 7 ++ spec_bits.bits 1 3 3 ++ spec_bits.bits byte 7 0) header.now }
+        ≡ value (spec_bits.bits 1 7 7 ++ spec_bits.bits 1 3 3 ++ spec_bits.bits byte 7 0)
+        header.now }
 {
     let high = bits(header, 1, 7, 7) * 2 + bits(header, 1, 3, 3);
     u16::from(high) * 256 + u16::from(bits(header, byte, 7, 0))
