@@ -8,4 +8,5 @@ pub mod Lookups
 pub mod Sorting
 pub mod States
 pub mod Stores
+pub mod Streaming
 pub mod Texts

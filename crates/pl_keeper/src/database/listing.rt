@@ -9,10 +9,9 @@ ghost use Rattle.pl_keeper.specs.Rows.{Holds};
 ghost use Rattle.pl_keeper.specs.Settled.{Lives, Continues, Settled, line_in};
 
 use crate::database::found::body_at;
-use crate::database::statements::listing_rows;
 use crate::error::KeepError;
 use crate::keeper::KeyRow;
-use sqlite::{Alter, Connection, Row};
+use sqlite::{Alter, Connection, Row, params};
 use std::alloc::Global;
 
 fn string_at(row: &Row, place: usize) -> Result<String, KeepError>
@@ -35,18 +34,7 @@ fn line(row: &Row) -> Result<KeyRow, KeepError>
     })
 }
 
-/// The lines of the rows, in their order.
-fn lines(alloc: Global, rows: &[Row]) -> Result<Vec<KeyRow>, KeepError>
-    ensures { IfOk result (λ lines. lines.items ≡ map line_in rows.now) }
-{
-    let mut lines = Vec::new(alloc);
-    for row in rows {
-        lines.push(line(row)?)?;
-    }
-    Ok(lines)
-}
-
-/// The captures of a bench, in ascending order of key.
+/// The captures of a bench, in ascending order of key. The rows are taken one at a time, to the end.
 pub(crate) fn list_captures<S: Alter>(
     alloc: Global,
     db: &mut Connection<S>,
@@ -57,6 +45,16 @@ pub(crate) fn list_captures<S: Alter>(
     ensures ascending { Lives (state S.Store db.new) → (a : Archive) → Settled Holds (state S.Store db.old) a → IfOk result (λ rows. Ascends rows.items) }
     ensures kept { Lives (state S.Store db.new) → (a : Archive) → Settled Holds (state S.Store db.old) a → Settled Holds (state S.Store db.new) a }
 {
-    let rows = listing_rows(db, bench)?;
-    lines(alloc, rows.as_slice())
+    let mut lines = Vec::new(alloc);
+    let mut rows = db.query(
+        "SELECT label, profile, body FROM captures WHERE bench = ?1 ORDER BY label",
+        params![bench],
+    )?;
+    'rows: for _ in 0..u64::MAX {
+        let Some(row) = rows.next()? else {
+            return Ok(lines);
+        };
+        lines.push(line(row)?)?;
+    }
+    Err(KeepError::Failed)
 }

@@ -1,15 +1,13 @@
-//! The texts of SQL, each one call of the database.
+//! The texts of SQL that take the whole answer of a query at once, or add a row, each one call of the database.
 //!
-//! Those of the look-ups are run between transactions, and those of the puts within one. The whole answer of a query is
-//! taken at once.
+//! Those of the look-ups are run between transactions, and those of the puts within one.
 ghost use Rattle.std.specs.Prelude.{◌≡◌, map, filter, IfOk, OnOk};
 ghost use Rattle.std.specs.List.Sorted.{IsPermutation};
 ghost use Rattle.sqlite.specs.Held.{state};
 ghost use Rattle.sqlite.specs.State.{HasCleanDisk, KeepsCommit};
 ghost use Rattle.pl_keeper.specs.Archive.{Archive, is_profile, is_capture, with_profile, with_capture, profiles_of, captures_of};
 ghost use Rattle.pl_keeper.specs.Rows.{Holds};
-ghost use Rattle.pl_keeper.specs.Settled.{Lives, Continues, Settled, Within, body_of, name_of, owner_and_body, key_of, listed_as, line_in};
-ghost use Rattle.pl_keeper.specs.Listing.{Ascends};
+ghost use Rattle.pl_keeper.specs.Settled.{Lives, Continues, Settled, Within, body_of, name_of, owner_and_body, key_of};
 
 use sqlite::{Alter, Connection, Error, Row, Transaction, params};
 
@@ -44,24 +42,6 @@ pub(crate) fn capture_rows<S: Alter>(
     db.query_all(
         "SELECT profile, body FROM captures WHERE bench = ?1 AND label = ?2",
         params![bench, key],
-    )
-}
-
-/// Key, profile's name and body of each capture of a bench, in ascending order of key.
-pub(crate) fn listing_rows<S: Alter>(
-    db: &mut Connection<S>,
-    bench: &str,
-) -> Result<Vec<Row>, Error>
-    ensures continues { Continues (state S.Store db.old) (state S.Store db.new) }
-    ensures rows { Lives (state S.Store db.new) → (a : Archive) → Settled Holds (state S.Store db.old) a
-        → IfOk result (λ rows. IsPermutation (map listed_as (captures_of a bench.now)) rows.items) }
-    ensures sorted { Lives (state S.Store db.new) → (a : Archive) → Settled Holds (state S.Store db.old) a
-        → IfOk result (λ rows. Ascends (map line_in rows.items)) }
-    ensures kept { Lives (state S.Store db.new) → (a : Archive) → Settled Holds (state S.Store db.old) a → Settled Holds (state S.Store db.new) a }
-{
-    db.query_all(
-        "SELECT label, profile, body FROM captures WHERE bench = ?1 ORDER BY label",
-        params![bench],
     )
 }
 
