@@ -10,7 +10,9 @@ use crate::error::KeepError;
 use crate::keeper::{Keeper, KeyRow, Put, Stored};
 use crate::limits::{MOST_CAPTURES, MOST_PROFILES};
 use crate::memory::held::{HeldCapture, HeldProfile};
-use crate::memory::rows::{count_captures, count_profiles, find_capture, find_profile, sorted_lines};
+use crate::memory::rows::{
+    count_captures, count_profiles, find_capture, find_profile, sorted_lines,
+};
 use pl_io::memory::plan::FaultPlan;
 use std::alloc::{AllocError, Global};
 

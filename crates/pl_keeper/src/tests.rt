@@ -32,19 +32,44 @@ fn listed<K: Keeper>(keeper: &mut K, alloc: Global, bench: &str) -> Result<Strin
 
 /// Puts over one row, and up to the last profile that a bench may have.
 fn a_day_at_a_bench<K: Keeper>(rt: &impl Abort, alloc: Global, keeper: &mut K) {
-    assert_eq!(rt; keeper.put_profile(alloc, "b1", "p1", b"vcs = 1\n"), Ok(Put::New));
-    assert_eq!(rt; keeper.put_profile(alloc, "b1", "p1", b"vcs = 1\n"), Ok(Put::Same));
-    assert_eq!(rt; keeper.put_profile(alloc, "b1", "p1", b"vcs = 2\n"), other_bytes(8, 6));
-    assert_eq!(rt; keeper.put_profile(alloc, "b1", "p1", b"vcs = 1"), other_bytes(8, 7));
-    assert_eq!(rt; keeper.put_capture(alloc, "b1", "k1", "p9", &[0]), Ok(Put::NoProfile));
-    assert_eq!(rt; keeper.put_capture(alloc, "b1", "k1", "p1", &[0]), Ok(Put::New));
+    assert_eq!(rt;
+        keeper.put_profile(alloc, "b1", "p1", b"vcs = 1\n"),
+        Ok(Put::New)
+    );
+    assert_eq!(rt;
+        keeper.put_profile(alloc, "b1", "p1", b"vcs = 1\n"),
+        Ok(Put::Same)
+    );
+    assert_eq!(rt;
+        keeper.put_profile(alloc, "b1", "p1", b"vcs = 2\n"),
+        other_bytes(8, 6)
+    );
+    assert_eq!(rt;
+        keeper.put_profile(alloc, "b1", "p1", b"vcs = 1"),
+        other_bytes(8, 7)
+    );
+    assert_eq!(rt;
+        keeper.put_capture(alloc, "b1", "k1", "p9", &[0]),
+        Ok(Put::NoProfile)
+    );
+    assert_eq!(rt;
+        keeper.put_capture(alloc, "b1", "k1", "p1", &[0]),
+        Ok(Put::New)
+    );
     for name in [
         "p2", "p3", "p4", "p5", "p6", "p7", "p8", "p9", "p10", "p11", "p12", "p13", "p14", "p15",
         "p16",
     ] {
-        assert_eq!(rt; keeper.put_profile(alloc, "b1", name, &[]), Ok(Put::New), "{name}");
+        assert_eq!(rt;
+            keeper.put_profile(alloc, "b1", name, &[]),
+            Ok(Put::New),
+            "{name}"
+        );
     }
-    assert_eq!(rt; keeper.put_capture(alloc, "b1", "k1", "p2", &[0]), Ok(Put::OtherProfile));
+    assert_eq!(rt;
+        keeper.put_capture(alloc, "b1", "k1", "p2", &[0]),
+        Ok(Put::OtherProfile)
+    );
     assert_eq!(rt; keeper.put_profile(alloc, "b1", "p17", &[]), Ok(Put::Full));
     assert_eq!(rt; keeper.put_profile(alloc, "b2", "p1", &[]), Ok(Put::New));
 }
@@ -57,16 +82,31 @@ fn a_full_bench<K: Keeper>(rt: &impl Abort, alloc: Global, keeper: &mut K) -> Re
         let put = keeper.put_capture(alloc, "b", key.as_str(), "p", &[1, 2]);
         assert_eq!(rt; put, Ok(Put::New), "{key}");
     }
-    assert_eq!(rt; keeper.put_capture(alloc, "b", "k64", "p", &[]), Ok(Put::Full));
-    assert_eq!(rt; keeper.put_capture(alloc, "b", "k64", "q", &[]), Ok(Put::NoProfile));
-    assert_eq!(rt; keeper.put_capture(alloc, "b", "k63", "p", &[1, 2]), Ok(Put::Same));
+    assert_eq!(rt;
+        keeper.put_capture(alloc, "b", "k64", "p", &[]),
+        Ok(Put::Full)
+    );
+    assert_eq!(rt;
+        keeper.put_capture(alloc, "b", "k64", "q", &[]),
+        Ok(Put::NoProfile)
+    );
+    assert_eq!(rt;
+        keeper.put_capture(alloc, "b", "k63", "p", &[1, 2]),
+        Ok(Put::Same)
+    );
     Ok(())
 }
 
 /// Bodies and names that a text could spoil.
 fn odd_rows<K: Keeper>(rt: &impl Abort, alloc: Global, keeper: &mut K) -> Result<(), Fail> {
-    assert_eq!(rt; keeper.put_profile(alloc, QUOTED, QUOTED, &[0, 10, 0]), Ok(Put::New));
-    assert_eq!(rt; keeper.put_capture(alloc, QUOTED, QUOTED, QUOTED, &[]), Ok(Put::New));
+    assert_eq!(rt;
+        keeper.put_profile(alloc, QUOTED, QUOTED, &[0, 10, 0]),
+        Ok(Put::New)
+    );
+    assert_eq!(rt;
+        keeper.put_capture(alloc, QUOTED, QUOTED, QUOTED, &[]),
+        Ok(Put::New)
+    );
     let profile = keeper.profile(alloc, QUOTED, QUOTED)?.ok_or("no profile")?;
     assert_eq!(rt; profile.as_slice(), [0, 10, 0].as_slice());
     let Stored { profile, bytes } = keeper.capture(alloc, QUOTED, QUOTED)?.ok_or("no capture")?;
@@ -81,7 +121,11 @@ fn odd_rows<K: Keeper>(rt: &impl Abort, alloc: Global, keeper: &mut K) -> Result
 fn keys_in_order<K: Keeper>(rt: &impl Abort, alloc: Global, keeper: &mut K) -> Result<(), Fail> {
     assert_eq!(rt; keeper.put_profile(alloc, "b", "p", &[]), Ok(Put::New));
     for key in ["ab", "b", "a", "a-", "B"] {
-        assert_eq!(rt; keeper.put_capture(alloc, "b", key, "p", &[1]), Ok(Put::New), "{key}");
+        assert_eq!(rt;
+            keeper.put_capture(alloc, "b", key, "p", &[1]),
+            Ok(Put::New),
+            "{key}"
+        );
     }
     let keys = listed(keeper, alloc, "b")?;
     assert_eq!(rt; keys.as_str(), "B p 1;a p 1;a- p 1;ab p 1;b p 1;");
@@ -91,7 +135,10 @@ fn keys_in_order<K: Keeper>(rt: &impl Abort, alloc: Global, keeper: &mut K) -> R
 /// The longest body is found as it was put.
 fn a_longest_body<K: Keeper>(rt: &impl Abort, alloc: Global, keeper: &mut K) -> Result<(), Fail> {
     let body = vec![in alloc; 7u8; LONGEST_BODY]?;
-    assert_eq!(rt; keeper.put_profile(alloc, "b", "p", body.as_slice()), Ok(Put::New));
+    assert_eq!(rt;
+        keeper.put_profile(alloc, "b", "p", body.as_slice()),
+        Ok(Put::New)
+    );
     let back = keeper.profile(alloc, "b", "p")?.ok_or("no profile")?;
     assert!(rt; back.as_slice() == body.as_slice());
     Ok(())
@@ -132,7 +179,10 @@ fn rows_in_a_file(rt: HostRuntime) -> Result<(), Fail> {
     let again = second.put_capture(rt.alloc(), "b1", "k1", "p1", &[1]);
     second.into_connection().close()?;
     fs::remove_file(&rt, path.as_path())?;
-    fs::remove_file(&rt, format!(in rt.alloc(); "{}-wal", path.as_str())?.as_str())?;
+    fs::remove_file(
+        &rt,
+        format!(in rt.alloc(); "{}-wal", path.as_str())?.as_str(),
+    )?;
     assert_eq!(rt; keys.as_str(), "k1 p1 1;");
     assert_eq!(rt; again, other_bytes(1, 0));
     Ok(())
@@ -153,8 +203,16 @@ fn the_planned_call_fails(rt: HostRuntime) -> Result<(), Fail> {
         assert_eq!(rt; fails, [k == 1, k == 2, k == 3, k == 4, k == 5], "call {k}");
         let profile = if k == 1 { Put::New } else { Put::Same };
         let capture = if k <= 2 { Put::New } else { Put::Same };
-        assert_eq!(rt; keeper.put_profile(rt.alloc(), "b", "p", &[]), Ok(profile), "call {k}");
-        assert_eq!(rt; keeper.put_capture(rt.alloc(), "b", "k", "p", &[]), Ok(capture), "call {k}");
+        assert_eq!(rt;
+            keeper.put_profile(rt.alloc(), "b", "p", &[]),
+            Ok(profile),
+            "call {k}"
+        );
+        assert_eq!(rt;
+            keeper.put_capture(rt.alloc(), "b", "k", "p", &[]),
+            Ok(capture),
+            "call {k}"
+        );
     }
     Ok(())
 }
@@ -176,12 +234,18 @@ fn a_database_with_other_profiles(rt: HostRuntime) -> Result<(), Fail> {
     let mut keeper = SqliteKeeper::new(db);
     let failed = Some(KeepError::Failed);
     assert_eq!(rt; keeper.put_profile(rt.alloc(), "b", "p", &[]).err(), failed);
-    assert_eq!(rt; keeper.put_capture(rt.alloc(), "b", "k", "p", &[]).err(), failed);
+    assert_eq!(rt;
+        keeper.put_capture(rt.alloc(), "b", "k", "p", &[]).err(),
+        failed
+    );
     assert_eq!(rt; keeper.profile(rt.alloc(), "b", "p").err(), failed);
     assert_eq!(rt; keeper.capture(rt.alloc(), "b", "k").err(), failed);
     assert_eq!(rt; keeper.keys(rt.alloc(), "b").err(), failed);
     let mut db = keeper.into_connection();
-    assert_eq!(rt; db.query_all("SELECT name FROM sqlite_schema", &[])?.len(), 1);
+    assert_eq!(rt;
+        db.query_all("SELECT name FROM sqlite_schema", &[])?.len(),
+        1
+    );
     assert_eq!(rt; db.query_all("SELECT name FROM profiles", &[])?.len(), 0);
     Ok(())
 }
@@ -198,7 +262,10 @@ fn a_longer_row(rt: HostRuntime) -> Result<(), Fail> {
         params![body.as_slice()],
     )?;
     let mut keeper = SqliteKeeper::new(db);
-    assert_eq!(rt; keeper.capture(rt.alloc(), "b", "k").err(), Some(KeepError::Failed));
+    assert_eq!(rt;
+        keeper.capture(rt.alloc(), "b", "k").err(),
+        Some(KeepError::Failed)
+    );
     assert_eq!(rt; keeper.keys(rt.alloc(), "b").err(), Some(KeepError::Failed));
     Ok(())
 }

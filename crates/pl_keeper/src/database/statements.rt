@@ -80,10 +80,7 @@ pub(crate) fn profile_names_inside<S: Alter>(
     ensures kept { HasCleanDisk (state S.Store tx.new.conn.now) → (a : Archive) → Within (state S.Store tx.old.conn.now) a
         → KeepsCommit (state S.Store tx.old.conn.now) (state S.Store tx.new.conn.now) }
 {
-    tx.query_all(
-        "SELECT name FROM profiles WHERE bench = ?1",
-        params![bench],
-    )
+    tx.query_all("SELECT name FROM profiles WHERE bench = ?1", params![bench])
 }
 
 /// The profile's name and the body of one capture, within a put.

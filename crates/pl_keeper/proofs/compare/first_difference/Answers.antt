@@ -10,7 +10,7 @@ returns-then-old-place c =
     sym first
 
 pub returns-else-place-new : goal.returns-else-place-new
-returns-else-place-new c = 
+returns-else-place-new c =
     let first : first_difference c.args.old.now c.args.new.now ≡ c.bytes.place =
     first_at c.bytes.place c.args.old.now c.args.new.now c.bytes.invariant.in_old c.bytes.invariant.in_new c.bytes.invariant.same (λ more more'. absurd (omega arith)) in
     sym first

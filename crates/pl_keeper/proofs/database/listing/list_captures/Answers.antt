@@ -56,8 +56,7 @@ rows-preserved g c =
       };
       so_far = λ has clean.
           let before = was.so_far has (omega (arith, clean, moved.survives.clean)) in
-          let given = (rw (c.in_ok-row.was, c.in-Some.is) at (moved.ok clean)) listing_text (Text c.args.bench.now ∷ []) before.0 before.1 in
-          (
+          let given = (rw (c.in_ok-row.was, c.in-Some.is) at (moved.ok clean)) listing_text (Text c.args.bench.now ∷ []) before.0 before.1 in (
             before.0 ++ c.in-Some.row.now ∷ [],
             given,
             c.in_ok-push.ensures.items ∙ one_line_more before.0 c.in-Some.row.now c.rows.lines.items c.in_ok-line.field-0 before.2 c.in_ok-line.ensures,

@@ -18,5 +18,5 @@ invariant-rows g l =
       same_reference : l.rows.conn.ghost_name ≡ l.initial.rows.conn.ghost_name;
       continues : Continues old now;
       so_far : old.now.schema ≡ both_tables → HasCleanDisk now
-        → (given : List Row) × HasGiven g.S.Store listing_text (Text l.fn.bench ∷ []) l.rows.conn.now given × (l.lines.items ≡ map line_in given) × IsUnchanged old now
+          → (given : List Row) × HasGiven g.S.Store listing_text (Text l.fn.bench ∷ []) l.rows.conn.now given × (l.lines.items ≡ map line_in given) × IsUnchanged old now;
     }
