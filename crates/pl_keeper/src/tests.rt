@@ -7,7 +7,6 @@ use sqlite::{Connection, params};
 use std::alloc::Global;
 use std::process::Abort;
 use std::test::Fail;
-use std::{env, fs, process};
 
 /// 64 characters, one of which SQL quotes.
 const QUOTED: &str = "it's-sixty-four-characters-long-abcdefghijklmnopqrstuvwxyz012345";
@@ -164,28 +163,6 @@ fn rows_in_a_database(rt: HostRuntime) -> Result<(), Fail> {
     odd_rows(&rt, rt.alloc(), &mut open_in_memory(rt.alloc())?)?;
     keys_in_order(&rt, rt.alloc(), &mut open_in_memory(rt.alloc())?)?;
     a_longest_body(&rt, rt.alloc(), &mut open_in_memory(rt.alloc())?)
-}
-
-/// The second keeper of a file finds the rows of the first.
-#[test]
-fn rows_in_a_file(rt: HostRuntime) -> Result<(), Fail> {
-    let name = format!(in rt.alloc(); "archive_{}", process::id(rt.process()))?;
-    let path = env::temp_dir(&rt)?.join(rt.alloc(), name)?;
-    let mut first = SqliteKeeper::new(Connection::open(&rt, path.as_str())?);
-    a_day_at_a_bench(&rt, rt.alloc(), &mut first);
-    first.into_connection().close()?;
-    let mut second = SqliteKeeper::new(Connection::open(&rt, path.as_str())?);
-    let keys = listed(&mut second, rt.alloc(), "b1")?;
-    let again = second.put_capture(rt.alloc(), "b1", "k1", "p1", &[1]);
-    second.into_connection().close()?;
-    fs::remove_file(&rt, path.as_path())?;
-    fs::remove_file(
-        &rt,
-        format!(in rt.alloc(); "{}-wal", path.as_str())?.as_str(),
-    )?;
-    assert_eq!(rt; keys.as_str(), "k1 p1 1;");
-    assert_eq!(rt; again, other_bytes(1, 0));
-    Ok(())
 }
 
 /// The k-th call fails and no other, and a put that failed is New when it is tried again.
