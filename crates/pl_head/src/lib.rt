@@ -1,0 +1,14 @@
+//! HTTP/1.x at the edge of the archive: how a request begins, and the bytes of a reply.
+//!
+//! A request begins with a whole head, or is refused before anything else is looked at; the fields
+//! of a head say how long its body is. Both follow RFC 9112.
+#![tactic(auto)]
+
+mod reply;
+mod status;
+
+pub use reply::{Media, send_reply};
+pub use status::{Method, Status};
+
+#[cfg(test)]
+mod tests;

@@ -1,0 +1,3 @@
+//! Requests and replies as RFC 9112 writes them.
+
+mod replies;
