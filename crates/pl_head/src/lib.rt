@@ -4,9 +4,11 @@
 //! of a head say how long its body is. Both follow RFC 9112.
 #![tactic(auto)]
 
+mod front;
 mod reply;
 mod status;
 
+pub use front::{FIELD_ROOM, HEAD_LIMIT, HeadRoom, Opening, read_front};
 pub use reply::{Media, send_reply};
 pub use status::{Method, Status};
 
