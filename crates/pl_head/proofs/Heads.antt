@@ -31,9 +31,9 @@ pub fields_fit : (room : ℕ) (bytes : List ℕ) →
 fields_fit room bytes short many exceeds =
     let front = exceeds.0 in
     let cut : length bytes ≡ length front + length exceeds.1 =
-        ap length exceeds.2 ∙ length-append front exceeds.1 in
+    ap length exceeds.2 ∙ length-append front exceeds.1 in
     let printed : length (front ++ print_end lf) ≡ length (print_request exceeds.3 ++ []) =
-        ap length exceeds.4.1 in
+    ap length exceeds.4.1 in
     omega (
       arith,
       head_length exceeds.3,

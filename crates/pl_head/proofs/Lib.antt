@@ -1,3 +1,5 @@
+pub mod Beginnings
+pub mod Forms
 pub mod Fronts
 pub mod Heads
 pub mod Lengths

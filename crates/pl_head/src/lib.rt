@@ -4,10 +4,13 @@
 //! of a head say how long its body is. Both follow RFC 9112.
 #![tactic(auto)]
 
+mod form;
 mod front;
+pub mod laws;
 mod reply;
 mod status;
 
+pub use form::{Form, read_form};
 pub use front::{FIELD_ROOM, HEAD_LIMIT, HeadRoom, Opening, read_front};
 pub use reply::{Media, send_reply};
 pub use status::{Method, Status};

@@ -32,7 +32,7 @@ returns-then-filled-buf-clause-bytes g c =
     let full : c.loop-head.filled ≡ 16384 = omega arith in
     subst
     (λ n. g.C.Conn.incoming c.args.conn.now
-        ≡ ahead (take n c.loop-head.buf) (g.C.Conn.incoming c.loop-head.conn))
+    ≡ ahead (take n c.loop-head.buf) (g.C.Conn.incoming c.loop-head.conn))
     full c.loop-head.invariant.bytes
 
 pub returns-then-filled-buf-clause-front : goal.returns-then-filled-buf-clause-front
@@ -47,7 +47,7 @@ pub returns-then-count-eq0-clause-reads : goal.returns-then-count-eq0-clause-rea
 returns-then-count-eq0-clause-reads g c =
     let n = c.loop-head.filled in
     let same = take-put_mid_below n (length c.loop-head.buf - n) c.loop-head.buf c.read.new.buf n
-        (omega arith) (omega arith) in
+    (omega arith) (omega arith) in
     (omega arith, rw same c.in-Unfinished.ensures.0, rw same c.in-Unfinished.ensures.1)
 
 pub returns-then-count-eq0-clause-front : goal.returns-then-count-eq0-clause-front
