@@ -1,3 +1,0 @@
-//! Requests and replies as RFC 9112 writes them.
-
-mod replies;
