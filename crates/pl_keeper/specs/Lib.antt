@@ -1,7 +1,0 @@
-pub mod Archive
-pub mod Counts
-pub mod Listing
-pub mod Puts
-pub mod Rows
-pub mod Schema
-pub mod Settled
