@@ -1,0 +1,12 @@
+pub mod Answers
+pub mod Choices
+pub mod Creates
+pub mod Differences
+pub mod Firsts
+pub mod Inserts
+pub mod Lookups
+pub mod Sorting
+pub mod States
+pub mod Stores
+pub mod Streaming
+pub mod Texts

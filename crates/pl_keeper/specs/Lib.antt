@@ -1,0 +1,7 @@
+pub mod Archive
+pub mod Counts
+pub mod Listing
+pub mod Puts
+pub mod Rows
+pub mod Schema
+pub mod Settled

@@ -1,0 +1,248 @@
+//! The archive as it is worked out by hand, over each keeper.
+
+use crate::{
+    KeepError, Keeper, KeyRow, LONGEST_BODY, MapKeeper, Put, SqliteKeeper, Stored, open_in_memory,
+};
+use sqlite::{Connection, params};
+use std::alloc::Global;
+use std::process::Abort;
+use std::test::Fail;
+
+/// 64 characters, one of which SQL quotes.
+const QUOTED: &str = "it's-sixty-four-characters-long-abcdefghijklmnopqrstuvwxyz012345";
+
+fn other_bytes(length: u64, place: u64) -> Result<Put, KeepError> {
+    Ok(Put::OtherBytes { length, place })
+}
+
+/// The captures of a bench, each as `key profile length` and a semicolon.
+fn listed<K: Keeper>(keeper: &mut K, alloc: Global, bench: &str) -> Result<String, Fail> {
+    let mut text = String::new(alloc);
+    for row in keeper.keys(alloc, bench)? {
+        let KeyRow {
+            key,
+            profile,
+            length,
+        } = row;
+        text.push_str(format!(in alloc; "{key} {profile} {length};")?.as_str())?;
+    }
+    Ok(text)
+}
+
+/// Puts over one row, and up to the last profile that a bench may have.
+fn a_day_at_a_bench<K: Keeper>(rt: &impl Abort, alloc: Global, keeper: &mut K) {
+    assert_eq!(rt;
+        keeper.put_profile(alloc, "b1", "p1", b"vcs = 1\n"),
+        Ok(Put::New)
+    );
+    assert_eq!(rt;
+        keeper.put_profile(alloc, "b1", "p1", b"vcs = 1\n"),
+        Ok(Put::Same)
+    );
+    assert_eq!(rt;
+        keeper.put_profile(alloc, "b1", "p1", b"vcs = 2\n"),
+        other_bytes(8, 6)
+    );
+    assert_eq!(rt;
+        keeper.put_profile(alloc, "b1", "p1", b"vcs = 1"),
+        other_bytes(8, 7)
+    );
+    assert_eq!(rt;
+        keeper.put_capture(alloc, "b1", "k1", "p9", &[0]),
+        Ok(Put::NoProfile)
+    );
+    assert_eq!(rt;
+        keeper.put_capture(alloc, "b1", "k1", "p1", &[0]),
+        Ok(Put::New)
+    );
+    for name in [
+        "p2", "p3", "p4", "p5", "p6", "p7", "p8", "p9", "p10", "p11", "p12", "p13", "p14", "p15",
+        "p16",
+    ] {
+        assert_eq!(rt;
+            keeper.put_profile(alloc, "b1", name, &[]),
+            Ok(Put::New),
+            "{name}"
+        );
+    }
+    assert_eq!(rt;
+        keeper.put_capture(alloc, "b1", "k1", "p2", &[0]),
+        Ok(Put::OtherProfile)
+    );
+    assert_eq!(rt; keeper.put_profile(alloc, "b1", "p17", &[]), Ok(Put::Full));
+    assert_eq!(rt; keeper.put_profile(alloc, "b2", "p1", &[]), Ok(Put::New));
+}
+
+/// As many captures as a bench may have, the last key first.
+fn a_full_bench<K: Keeper>(rt: &impl Abort, alloc: Global, keeper: &mut K) -> Result<(), Fail> {
+    assert_eq!(rt; keeper.put_profile(alloc, "b", "p", &[]), Ok(Put::New));
+    for k in 0..64u32 {
+        let key = format!(in alloc; "k{:02}", 63 - k)?;
+        let put = keeper.put_capture(alloc, "b", key.as_str(), "p", &[1, 2]);
+        assert_eq!(rt; put, Ok(Put::New), "{key}");
+    }
+    assert_eq!(rt;
+        keeper.put_capture(alloc, "b", "k64", "p", &[]),
+        Ok(Put::Full)
+    );
+    assert_eq!(rt;
+        keeper.put_capture(alloc, "b", "k64", "q", &[]),
+        Ok(Put::NoProfile)
+    );
+    assert_eq!(rt;
+        keeper.put_capture(alloc, "b", "k63", "p", &[1, 2]),
+        Ok(Put::Same)
+    );
+    Ok(())
+}
+
+/// Bodies and names that a text could spoil.
+fn odd_rows<K: Keeper>(rt: &impl Abort, alloc: Global, keeper: &mut K) -> Result<(), Fail> {
+    assert_eq!(rt;
+        keeper.put_profile(alloc, QUOTED, QUOTED, &[0, 10, 0]),
+        Ok(Put::New)
+    );
+    assert_eq!(rt;
+        keeper.put_capture(alloc, QUOTED, QUOTED, QUOTED, &[]),
+        Ok(Put::New)
+    );
+    let profile = keeper.profile(alloc, QUOTED, QUOTED)?.ok_or("no profile")?;
+    assert_eq!(rt; profile.as_slice(), [0, 10, 0].as_slice());
+    let Stored { profile, bytes } = keeper.capture(alloc, QUOTED, QUOTED)?.ok_or("no capture")?;
+    assert_eq!(rt; profile.as_str(), QUOTED);
+    assert_eq!(rt; bytes.len(), 0);
+    assert!(rt; keeper.profile(alloc, QUOTED, "p")?.is_none());
+    assert!(rt; keeper.capture(alloc, "b", QUOTED)?.is_none());
+    Ok(())
+}
+
+/// Keys are listed byte by byte, whatever the order of storing.
+fn keys_in_order<K: Keeper>(rt: &impl Abort, alloc: Global, keeper: &mut K) -> Result<(), Fail> {
+    assert_eq!(rt; keeper.put_profile(alloc, "b", "p", &[]), Ok(Put::New));
+    for key in ["ab", "b", "a", "a-", "B"] {
+        assert_eq!(rt;
+            keeper.put_capture(alloc, "b", key, "p", &[1]),
+            Ok(Put::New),
+            "{key}"
+        );
+    }
+    let keys = listed(keeper, alloc, "b")?;
+    assert_eq!(rt; keys.as_str(), "B p 1;a p 1;a- p 1;ab p 1;b p 1;");
+    Ok(())
+}
+
+/// The longest body is found as it was put.
+fn a_longest_body<K: Keeper>(rt: &impl Abort, alloc: Global, keeper: &mut K) -> Result<(), Fail> {
+    let body = vec![in alloc; 7u8; LONGEST_BODY]?;
+    assert_eq!(rt;
+        keeper.put_profile(alloc, "b", "p", body.as_slice()),
+        Ok(Put::New)
+    );
+    let back = keeper.profile(alloc, "b", "p")?.ok_or("no profile")?;
+    assert!(rt; back.as_slice() == body.as_slice());
+    Ok(())
+}
+
+#[test]
+fn rows_in_memory(rt: HostRuntime) -> Result<(), Fail> {
+    let mut keeper = MapKeeper::new(rt.alloc(), &[])?;
+    a_day_at_a_bench(&rt, rt.alloc(), &mut keeper);
+    assert_eq!(rt; listed(&mut keeper, rt.alloc(), "b1")?.as_str(), "k1 p1 1;");
+    a_full_bench(&rt, rt.alloc(), &mut keeper)?;
+    odd_rows(&rt, rt.alloc(), &mut MapKeeper::new(rt.alloc(), &[])?)?;
+    keys_in_order(&rt, rt.alloc(), &mut MapKeeper::new(rt.alloc(), &[])?)?;
+    a_longest_body(&rt, rt.alloc(), &mut MapKeeper::new(rt.alloc(), &[])?)
+}
+
+#[test]
+fn rows_in_a_database(rt: HostRuntime) -> Result<(), Fail> {
+    let mut keeper = open_in_memory(rt.alloc())?;
+    a_day_at_a_bench(&rt, rt.alloc(), &mut keeper);
+    assert_eq!(rt; listed(&mut keeper, rt.alloc(), "b1")?.as_str(), "k1 p1 1;");
+    a_full_bench(&rt, rt.alloc(), &mut keeper)?;
+    odd_rows(&rt, rt.alloc(), &mut open_in_memory(rt.alloc())?)?;
+    keys_in_order(&rt, rt.alloc(), &mut open_in_memory(rt.alloc())?)?;
+    a_longest_body(&rt, rt.alloc(), &mut open_in_memory(rt.alloc())?)
+}
+
+/// The k-th call fails and no other, and a put that failed is New when it is tried again.
+#[test]
+fn the_planned_call_fails(rt: HostRuntime) -> Result<(), Fail> {
+    for k in 1..6u64 {
+        let mut keeper = MapKeeper::new(rt.alloc(), &[k])?;
+        let fails = [
+            keeper.put_profile(rt.alloc(), "b", "p", &[]).is_err(),
+            keeper.put_capture(rt.alloc(), "b", "k", "p", &[]).is_err(),
+            keeper.profile(rt.alloc(), "b", "p").is_err(),
+            keeper.capture(rt.alloc(), "b", "k").is_err(),
+            keeper.keys(rt.alloc(), "b").is_err(),
+        ];
+        assert_eq!(rt; fails, [k == 1, k == 2, k == 3, k == 4, k == 5], "call {k}");
+        let profile = if k == 1 { Put::New } else { Put::Same };
+        let capture = if k <= 2 { Put::New } else { Put::Same };
+        assert_eq!(rt;
+            keeper.put_profile(rt.alloc(), "b", "p", &[]),
+            Ok(profile),
+            "call {k}"
+        );
+        assert_eq!(rt;
+            keeper.put_capture(rt.alloc(), "b", "k", "p", &[]),
+            Ok(capture),
+            "call {k}"
+        );
+    }
+    Ok(())
+}
+
+/// Other tables don't stand in the way.
+#[test]
+fn a_database_with_another_table(rt: HostRuntime) -> Result<(), Fail> {
+    let mut db = Connection::open_in_memory(rt.alloc())?;
+    db.execute_batch("CREATE TABLE notes (x TEXT) STRICT")?;
+    a_day_at_a_bench(&rt, rt.alloc(), &mut SqliteKeeper::new(db));
+    Ok(())
+}
+
+/// A table of our name and of another form is at fault, and nothing is written.
+#[test]
+fn a_database_with_other_profiles(rt: HostRuntime) -> Result<(), Fail> {
+    let mut db = Connection::open_in_memory(rt.alloc())?;
+    db.execute_batch("CREATE TABLE profiles (bench TEXT, name TEXT) STRICT")?;
+    let mut keeper = SqliteKeeper::new(db);
+    let failed = Some(KeepError::Failed);
+    assert_eq!(rt; keeper.put_profile(rt.alloc(), "b", "p", &[]).err(), failed);
+    assert_eq!(rt;
+        keeper.put_capture(rt.alloc(), "b", "k", "p", &[]).err(),
+        failed
+    );
+    assert_eq!(rt; keeper.profile(rt.alloc(), "b", "p").err(), failed);
+    assert_eq!(rt; keeper.capture(rt.alloc(), "b", "k").err(), failed);
+    assert_eq!(rt; keeper.keys(rt.alloc(), "b").err(), failed);
+    let mut db = keeper.into_connection();
+    assert_eq!(rt;
+        db.query_all("SELECT name FROM sqlite_schema", &[])?.len(),
+        1
+    );
+    assert_eq!(rt; db.query_all("SELECT name FROM profiles", &[])?.len(), 0);
+    Ok(())
+}
+
+/// A body that is longer than a put may make is at fault.
+#[test]
+fn a_longer_row(rt: HostRuntime) -> Result<(), Fail> {
+    let mut keeper = open_in_memory(rt.alloc())?;
+    assert_eq!(rt; keeper.put_profile(rt.alloc(), "b", "p", &[]), Ok(Put::New));
+    let body = vec![in rt.alloc(); 7u8; LONGEST_BODY + 1]?;
+    let mut db = keeper.into_connection();
+    db.execute(
+        "INSERT INTO captures (bench, label, profile, body) VALUES ('b', 'k', 'p', ?1)",
+        params![body.as_slice()],
+    )?;
+    let mut keeper = SqliteKeeper::new(db);
+    assert_eq!(rt;
+        keeper.capture(rt.alloc(), "b", "k").err(),
+        Some(KeepError::Failed)
+    );
+    assert_eq!(rt; keeper.keys(rt.alloc(), "b").err(), Some(KeepError::Failed));
+    Ok(())
+}
