@@ -1,6 +1,6 @@
 //! The engine itself.
 ghost use Rattle.std.specs.Prelude.{◌≡◌, ◌+◌, ◌<◌, ◌≤◌, ◌∷◌, ◌^◌, [], List, IfOk, IfErr, OnOk};
-ghost use Rattle.std.specs.Prelude.{OnErr, Some, None, length};
+ghost use Rattle.std.specs.Prelude.{OnErr, Some, None};
 ghost use Rattle.arrayvec.specs.ArrayVec.{array_vec_len};
 ghost use Rattle.pl_capture.specs.Entry.{Entry, view as entry, IsLawful};
 ghost use Rattle.pl_engine.specs.Counts.{AreBefore};

@@ -1,5 +1,5 @@
 //! The parts that the rules look at: each hears its events of the items, one after another.
-ghost use Rattle.std.specs.Prelude.{ℕ, ◌≡◌, ◌+◌, ◌≤◌, ◌∷◌, [], List, IfOk, OnErr};
+ghost use Rattle.std.specs.Prelude.{ℕ, ◌≡◌, ◌+◌, ◌≤◌, [], List, IfOk, OnErr};
 ghost use Rattle.arrayvec.specs.ArrayVec.{array_vec_len};
 ghost use Rattle.pl_capture.specs.Entry.{Entry, view as entry, IsLawful};
 ghost use Rattle.pl_seq.specs.History.{place_of};

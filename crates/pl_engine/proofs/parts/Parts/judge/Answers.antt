@@ -7,7 +7,8 @@ use Rattle.pl_engine.proofs.parts.Parts.judge.Goals as goal
 pub returns-in-LinkDown-clause-judges : goal.returns-in-LinkDown-clause-judges
 returns-in-LinkDown-clause-judges c = λ past stands at.
     let x = entry c.args.item.now in
-    subst (λ (found : List Verdict). IsJudged c.args.profile.now past x c.link_down.new.self found) (sym c.requires.none)
+    subst (λ (found : List Verdict). IsJudged c.args.profile.now past x c.link_down.new.self found)
+    (sym c.requires.none)
     (c.link_down.ensures.judged c.args.profile.now past x c.in-LinkDown.is)
 
 pub returns-in-LinkDown-clause-ready : goal.returns-in-LinkDown-clause-ready

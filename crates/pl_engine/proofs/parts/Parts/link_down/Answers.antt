@@ -1,4 +1,3 @@
-use Rattle.std.proofs.Common.{rules}
 use Rattle.pl_engine.proofs.parts.Parts.link_down.Goals as goal
 
 pub returns-clause-ready : goal.returns-clause-ready
