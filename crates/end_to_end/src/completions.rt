@@ -38,7 +38,8 @@ fn transactions_are_clean_however_the_bytes_are_cut(rt: HostRuntime) -> Result<(
     Ok(())
 }
 
-/// The capture has 1,044 bytes: it is opened, read 17 times by 64 bytes, and then found to be at its end.
+/// The capture has 1,044 bytes: it is opened, read 17 times by 64 bytes, and then found to be at
+/// its end.
 #[test]
 fn transactions_end_in_a_read_fault_wherever_a_call_fails(rt: HostRuntime) -> Result<(), Fail> {
     let capture = transactions(rt.alloc())?;
@@ -80,12 +81,14 @@ fn reads_are_answered_by_count_address_and_boundary(rt: HostRuntime) -> Result<(
         rt.alloc(),
         &[
             Case::new(
-                "B0; 13 Up MRd n=0 tag=3 addr=1000 len=1 be=0/0; 14 Down CplD n=0 tag=3 bc=1 la=0 len=1",
+                "B0; 13 Up MRd n=0 tag=3 addr=1000 len=1 be=0/0; \
+                 14 Down CplD n=0 tag=3 bc=1 la=0 len=1",
                 0,
                 "end items 14 verdicts 0",
             ),
             Case::new(
-                "B0; 13 Up MRd n=0 tag=3 addr=1000 len=1 be=0/0; 14 Down CplD n=0 tag=3 bc=4 la=0 len=1",
+                "B0; 13 Up MRd n=0 tag=3 addr=1000 len=1 be=0/0; \
+                 14 Down CplD n=0 tag=3 bc=4 la=0 len=1",
                 1,
                 "item 14 rule C6 first 13 second -; end items 14 verdicts 1",
             ),
@@ -167,7 +170,8 @@ fn a_completion_that_answers_nothing_or_otherwise(rt: HostRuntime) -> Result<(),
                 "item 13 rule C1 first - second -; end items 13 verdicts 1",
             ),
             Case::new(
-                "B0; 13 Up MRd n=0 tag=1 addr=1000 len=1; 14 Down CplD n=0 tag=1 bc=4 la=0 len=1 TC 1",
+                "B0; 13 Up MRd n=0 tag=1 addr=1000 len=1; \
+                 14 Down CplD n=0 tag=1 bc=4 la=0 len=1 TC 1",
                 1,
                 "item 14 rule C3 first 13 second -; end items 14 verdicts 1",
             ),
@@ -181,6 +185,15 @@ fn a_completion_that_answers_nothing_or_otherwise(rt: HostRuntime) -> Result<(),
                 1,
                 "item 14 rule C8 first 13 second -; end items 14 verdicts 1",
             ),
+        ],
+    )
+}
+
+#[test]
+fn what_is_judged_of_a_completion_goes_by_its_request(rt: HostRuntime) -> Result<(), Fail> {
+    judge(
+        rt.alloc(),
+        &[
             // The length of a translation's answer is judged, its Byte Count isn't.
             Case::new(
                 "B0; 13 Up MRd n=0 tag=0 addr=1000 len=2 AT 01; 14 Down CplD n=0 tag=0 bc=64 len=3",

@@ -61,6 +61,15 @@ fn each_rule_of_an_advertisement(rt: HostRuntime) -> Result<(), Fail> {
                 1,
                 "item 3 rule F6 first - second -; end items 3 verdicts 1",
             ),
+        ],
+    )
+}
+
+#[test]
+fn each_rule_of_the_use_of_credits(rt: HostRuntime) -> Result<(), Fail> {
+    judge(
+        rt.alloc(),
+        &[
             Case::new(
                 "1 Down UpdateFC-P 1/1",
                 1,
@@ -92,7 +101,8 @@ fn the_turn_of_the_classes_is_a_ring(rt: HostRuntime) -> Result<(), Fail> {
         rt.alloc(),
         &[
             Case::new(
-                "1 Down InitFC1-P 0/0; 2 Down InitFC1-NP 0/0; 3 Down InitFC1-Cpl 0/0; 4 Down InitFC1-P 0/0",
+                "1 Down InitFC1-P 0/0; 2 Down InitFC1-NP 0/0; 3 Down InitFC1-Cpl 0/0; \
+                 4 Down InitFC1-P 0/0",
                 0,
                 "end items 4 verdicts 0",
             ),
@@ -129,7 +139,8 @@ fn a_channel_is_ready_behind_its_three_initials(rt: HostRuntime) -> Result<(), F
             ),
             // What was sent before it is used all the same.
             Case::new(
-                "1 Up MWr n=0; 2 Down InitFC1-P 1/0; 3 Down InitFC1-NP 0/0; 4 Down InitFC1-Cpl 0/0; \
+                "1 Up MWr n=0; 2 Down InitFC1-P 1/0; 3 Down InitFC1-NP 0/0; \
+                 4 Down InitFC1-Cpl 0/0; \
                  5 Down InitFC2-P 1/0; 6 Up MWr n=1",
                 1,
                 "item 1 rule F1 first - second -; item 6 rule F9 first 2 second -; \
@@ -169,8 +180,9 @@ fn an_advertisement_is_compared_by_its_value(rt: HostRuntime) -> Result<(), Fail
     )
 }
 
-/// 200 credits are more than 127 ahead of none used: a write then takes from them, and is past the half of the ring.
-/// Two credits with a data field that must stay 0 serve two writes, of which the second is past the first grant.
+/// 200 credits are more than 127 ahead of none used: a write then takes from them, and is past the
+/// half of the ring. Two credits with a data field that must stay 0 serve two writes, of which the
+/// second is past the first grant.
 #[test]
 fn a_wrong_update_is_the_grant_all_the_same(rt: HostRuntime) -> Result<(), Fail> {
     judge(
@@ -197,7 +209,8 @@ fn a_write_of_io_costs_one_data_credit(rt: HostRuntime) -> Result<(), Fail> {
     judge(
         rt.alloc(),
         &[Case::new(
-            "B0 with Down NP 2/1; 13 Up IOWr n=0 tag=0 addr=1000 len=5; 14 Up IOWr n=1 tag=1 addr=1000 len=1",
+            "B0 with Down NP 2/1; 13 Up IOWr n=0 tag=0 addr=1000 len=5; \
+             14 Up IOWr n=1 tag=1 addr=1000 len=1",
             1,
             "item 13 rule M9 first - second -; item 14 rule F10 first 2 second -; \
              end items 14 verdicts 2",

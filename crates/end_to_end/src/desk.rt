@@ -91,7 +91,8 @@ fn check_under(alloc: Global, profile: &str, capture: &[u8]) -> Result<Outcome, 
     Ok(Outcome { status, output })
 }
 
-/// The calls of a shelf or a sink: how many bytes each moves at most, and which of them fail, counted from 1.
+/// The calls of a shelf or a sink: how many bytes each moves at most, and which of them fail,
+/// counted from 1.
 #[derive(Clone, Copy)]
 pub struct Calls<'a> {
     pub most: usize,

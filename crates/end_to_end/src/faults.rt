@@ -62,7 +62,8 @@ fn is_usage(alloc: Global, words: &[&str]) -> Result<bool, AllocError> {
     let outcome = run_words(alloc, words, &EMPTY, Calls::of(1), Calls::of(1))?;
     Ok(outcome.is(
         2,
-        "usage: check PROFILE CAPTURE | list PROFILE CAPTURE FILTER | report PROFILE CAPTURE | trial NUMBER COUNT | serve ADDRESS STORE TURNS\n",
+        "usage: check PROFILE CAPTURE | list PROFILE CAPTURE FILTER | report PROFILE CAPTURE | \
+         trial NUMBER COUNT | serve ADDRESS STORE TURNS\n",
     ))
 }
 

@@ -25,14 +25,14 @@ fn acknowledged_writes(alloc: Global, count: u16) -> Result<Notation, AllocError
 
 #[test]
 fn a_replay_repeats_what_was_sent(rt: HostRuntime) -> Result<(), Fail> {
-    let same =
-        "8203 Up MWr n=4095; 8204 Up MWr n=0; 8205 Down Nak 4094; 8206 Up MWr n=4095; 8207 Up MWr n=0";
+    let same = "8203 Up MWr n=4095; 8204 Up MWr n=0; 8205 Down Nak 4094; 8206 Up MWr n=4095; \
+         8207 Up MWr n=0";
     Case::new(same, 0, "end items 8207 verdicts 0").judge_behind(
         rt.alloc(),
         acknowledged_writes(rt.alloc(), 4095)?,
     )?;
-    let other =
-        "8203 Up MWr n=4095; 8204 Up MWr n=0; 8205 Down Nak 4094; 8206 Up MWr n=4095; 8207 Up MWr n=0 data=01";
+    let other = "8203 Up MWr n=4095; 8204 Up MWr n=0; 8205 Down Nak 4094; 8206 Up MWr n=4095; \
+         8207 Up MWr n=0 data=01";
     Case::new(
         other,
         1,
@@ -71,6 +71,15 @@ fn numbers_that_stray_or_stand_in_another_order(rt: HostRuntime) -> Result<(), F
                 1,
                 "item 16 rule S3 first 15 second 14; end items 16 verdicts 1",
             ),
+        ],
+    )
+}
+
+#[test]
+fn a_repeat_behind_one_that_strayed_or_was_spoiled(rt: HostRuntime) -> Result<(), Fail> {
+    judge(
+        rt.alloc(),
+        &[
             // The latest TLP is stray, and whole.
             Case::new(
                 "B0; 13 Up MWr n=0; 14 Up MWr n=1; 15 Up MWr n=2; 16 Up MWr n=9; 17 Up MWr n=1",
@@ -80,12 +89,14 @@ fn numbers_that_stray_or_stand_in_another_order(rt: HostRuntime) -> Result<(), F
             ),
             // The latest TLP is spoiled, or nullified.
             Case::new(
-                "B0; 13 Up MWr n=0; 14 Up MWr n=1; 15 Up MWr n=2; 16 Up MWr n=3 spoiled; 17 Up MWr n=1",
+                "B0; 13 Up MWr n=0; 14 Up MWr n=1; 15 Up MWr n=2; 16 Up MWr n=3 spoiled; \
+                 17 Up MWr n=1",
                 1,
                 "item 16 rule L1 first - second -; end items 17 verdicts 1",
             ),
             Case::new(
-                "B0; 13 Up MWr n=0; 14 Up MWr n=1; 15 Up MWr n=2; 16 Up MWr n=3 nullified; 17 Up MWr n=1",
+                "B0; 13 Up MWr n=0; 14 Up MWr n=1; 15 Up MWr n=2; 16 Up MWr n=3 nullified; \
+                 17 Up MWr n=1",
                 0,
                 "end items 17 verdicts 0",
             ),

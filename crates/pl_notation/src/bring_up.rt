@@ -1,4 +1,5 @@
-//! Rows of a bring-up: both ends advertise their credits on VC 0, InitFC1 and then InitFC2 for P, NP and Cpl.
+//! Rows of a bring-up: both ends advertise their credits on VC 0, InitFC1 and then InitFC2 for P,
+//! NP and Cpl.
 use crate::dllp_row::{add_to, class_of, credits};
 use crate::notation::Notation;
 use pl_base::{Class, Dir};

@@ -1,6 +1,7 @@
 //! Captures for tests, written item by item as an engineer notes them: direction, packet, fields.
 //!
-//! CRCs are right unless a row says otherwise, an item's time is its number, and the end record counts right.
+//! CRCs are right unless a row says otherwise, an item's time is its number, and the end record
+//! counts right.
 #![tactic(auto)]
 
 mod bring_up;

@@ -25,7 +25,8 @@ impl Notation {
         Ok(Notation { bytes, items: 0 })
     }
 
-    /// Both ends advertise unlimited credits on VC 0, InitFC1 and then InitFC2 for P, NP and Cpl: twelve items.
+    /// Both ends advertise unlimited credits on VC 0, InitFC1 and then InitFC2 for P, NP and Cpl:
+    /// twelve items.
     pub fn bring_up(&mut self) -> Result<(), AllocError> {
         for stage in [Stage::Init1, Stage::Init2] {
             for dir in [Dir::Down, Dir::Up] {
@@ -93,8 +94,8 @@ impl Notation {
         })
     }
 
-    /// A TLP with this sequence number that arrived so: a nullified one has a bad end and the complement of
-    /// its LCRC, a spoiled one has a wrong LCRC.
+    /// A TLP with this sequence number that arrived so: a nullified one has a bad end and the
+    /// complement of its LCRC, a spoiled one has a wrong LCRC.
     pub fn tlp(&mut self, dir: Dir, number: u16, tlp: &[u8], body: Body) -> Result<(), AllocError>
         requires { length tlp.now ≤ 4154 }
     {

@@ -32,17 +32,18 @@ enum Row {
 impl Notation {
     /// The items of these rows, one behind the other. After an error the rows before it stand.
     ///
-    /// Rows are parted by `;`. A row may begin with the number of its item. `B0` is a bring-up with unlimited
-    /// credits and `B1` one with limited credits, `B0 with Down P 127/0` one that differs for a class. Then there are
-    /// `link down` and, behind `Down` or `Up`, a DLLP or a TLP:
+    /// Rows are parted by `;`. A row may begin with the number of its item. `B0` is a bring-up with
+    /// unlimited credits and `B1` one with limited credits, `B0 with Down P 127/0` one that differs
+    /// for a class. Then there are `link down` and, behind `Down` or `Up`, a DLLP or a TLP:
     ///
     /// - `Ack 5`, `Nak 5`: the sequence number.
-    /// - `UpdateFC-P 33/32`, and so `InitFC1` and `InitFC2`, `NP` and `Cpl`: header and data credits; behind them
-    ///   `HdrScale 10`, `DataScale 10` and `VC 1`.
-    /// - the kind of a TLP, then its fields; those that aren't given are 0. Decimal are `n` (sequence number), `len`
-    ///   (DW), `bc` (Byte Count), `TC`, `attr`; hexadecimal `req` (0100 where it isn't given), `tag`, `addr`, `la` (Lower
-    ///   Address), `code`, `be` (First/Last), `data` (the first byte of the data), `prefix`, `digest`; binary `AT` and
-    ///   `routing`; `status` is SC, UR, CRS or CA. `4DW`, `TH`, `BCM`, `nullified` and `spoiled` stand alone.
+    /// - `UpdateFC-P 33/32`, and so `InitFC1` and `InitFC2`, `NP` and `Cpl`: header and data
+    ///   credits; behind them `HdrScale 10`, `DataScale 10` and `VC 1`.
+    /// - the kind of a TLP, then its fields; those that aren't given are 0. Decimal are `n`
+    ///   (sequence number), `len` (DW), `bc` (Byte Count), `TC`, `attr`; hexadecimal `req` (0100
+    ///   where it isn't given), `tag`, `addr`, `la` (Lower Address), `code`, `be` (First/Last),
+    ///   `data` (the first byte of the data), `prefix`, `digest`; binary `AT` and `routing`;
+    ///   `status` is SC, UR, CRS or CA. `4DW`, `TH`, `BCM`, `nullified` and `spoiled` stand alone.
     pub fn rows(&mut self, text: &str) -> Result<(), RowError> {
         let mut count: usize = 0;
         for row in text.split(';') {
@@ -82,7 +83,8 @@ fn parse(words: &[&str], next: u64) -> Option<Row> {
     }
 }
 
-/// The words behind the number of the item, where they begin with one. None where it is another item's.
+/// The words behind the number of the item, where they begin with one. None where it is another
+/// item's.
 fn behind_number<'a>(words: &'a [&'a str], next: u64) -> Option<&'a [&'a str]> {
     let (first, rest) = words.split_first()?;
     match first.parse::<u64>() {

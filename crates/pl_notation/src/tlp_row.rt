@@ -34,7 +34,8 @@ const MOST_PREFIXES: usize = 8;
 pub(crate) struct TlpRow {
     number: u16,
     body: Body,
-    /// The fields but for prefixes and data, and for those that are known only once all words are read.
+    /// The fields but for prefixes and data, and for those that are known only once all words are
+    /// read.
     fields: Tlp<'static>,
     length: Option<u16>,
     address: Option<u64>,
@@ -193,8 +194,8 @@ impl TlpRow {
     }
 }
 
-/// A TLP of which no field is given: the fields of a number that counts from 1 to a power of two are 0 in the
-/// header, which is that power.
+/// A TLP of which no field is given: the fields of a number that counts from 1 to a power of two
+/// are 0 in the header, which is that power.
 fn blank(kind: Kind) -> Tlp<'static> {
     let is_completion = matches!(kind, Kind::Cpl | Kind::CplD | Kind::CplLk | Kind::CplDLk);
     Tlp {
