@@ -1,10 +1,10 @@
 -- The items of a capture are lawful, and so its bytes are read as these.
-use Rattle.std.proofs.Common.{◌≡◌, ℕ, zero, suc, ◌+◌, ◌-◌, ◌*◌, ◌/◌, ◌%◌, ◌^◌, ◌<◌, ◌≤◌, List, [], ◌∷◌, ◌++◌, length, refl, sym, ap, ◌∙◌, arith, lit<}
+use Rattle.std.proofs.Common.{◌≡◌, ℕ, zero, suc, ◌+◌, ◌-◌, ◌^◌, ◌<◌, ◌≤◌, List, [], ◌∷◌, ◌++◌}
+use Rattle.std.proofs.Common.{length, refl, ap, arith}
 use Rattle.std.specs.List.{AllByRecursion}
-use Rattle.std.proofs.lemmas.List.{length-append, length-replicate}
+use Rattle.std.proofs.lemmas.List.{length-append}
 use Rattle.byteorder.specs.Endian.{big_bytes}
 use Rattle.pl_base.specs.declared.link.Dir.{Dir}
-use Rattle.pl_base.specs.declared.link.Dir.TheVariants.{Down, Up}
 use Rattle.pl_capture.specs.Entry.{Entry, IsLawful}
 use Rattle.pl_crc.specs.Remainder.{crc16_of, crc32_of}
 use Rattle.pl_crc.proofs.Lengths.{length-crc16_of, length-crc32_of}
@@ -14,18 +14,21 @@ use Rattle.pl_dllp.specs.declared.packet.Stage.TheVariants.{Init1, Init2}
 use Rattle.pl_tlp.specs.Encoding.{digest_bytes}
 use Rattle.pl_tlp.specs.Fields.{Fields}
 use Rattle.pl_make.specs.Placed.{Field, placed}
-use Rattle.pl_make.specs.Packets.{IsPlain, ack_bytes, ack_fields, credit_bytes, credit_fields, with_crc, framed, header_bytes, header_fields, tlp_bytes}
-use Rattle.pl_make.specs.Generated.{bring_up, completion, dllp, drawn, items, read, round, rounds, start, step, tlp}
+use Rattle.pl_make.specs.Packets.{IsPlain, ack_bytes, ack_fields, credit_bytes, credit_fields}
+use Rattle.pl_make.specs.Packets.{with_crc, framed, header_bytes, tlp_bytes}
+use Rattle.pl_make.specs.Generated.{bring_up, dllp, drawn, items, round, rounds, step, tlp}
 use Rattle.pl_make.proofs.Lawful.{completion_plain, read_plain}
 
 placed_length : (first count : ℕ) (fields : List Field) → length (placed first count fields) ≡ count
 unfolding placed
 placed_length first zero fields = refl
-placed_length first (suc count) fields = let rest = placed_length (suc first) count fields in omega arith
+placed_length first (suc count) fields = let rest = placed_length (suc first) count fields in
+    omega arith
 
 with_crc_length : (content : List ℕ) → length content ≡ 4 → length (with_crc content) ≡ 6
 unfolding with_crc
-with_crc_length content four = omega (arith, length-append content (crc16_of content), length-crc16_of content)
+with_crc_length content four =
+    omega (arith, length-append content (crc16_of content), length-crc16_of content)
 
 ack_length : (n : ℕ) → length (ack_bytes n) ≡ 6
 unfolding ack_bytes
@@ -35,14 +38,22 @@ credit_length : (fc : Fc) → length (credit_bytes fc) ≡ 6
 unfolding credit_bytes
 credit_length fc = with_crc_length _ (placed_length 0 4 (credit_fields fc))
 
-dllp_lawful : (time : ℕ) (dir : Dir) (bytes : List ℕ) → length bytes ≡ 6 → time < 2 ^ 64 → IsLawful (dllp time dir bytes)
+dllp_lawful : (time : ℕ) (dir : Dir) (bytes : List ℕ) → length bytes ≡ 6 → time < 2 ^ 64
+    → IsLawful (dllp time dir bytes)
 dllp_lawful time dir bytes size lt =
-    record { tlp = λ e. absurd (let f = e in cc); dllp = λ e. (size, refl); link_down = λ e. absurd (let f = e in cc); time = lt }
+    record {
+      tlp = λ e. absurd (let f = e in cc);
+      dllp = λ e. (size, refl);
+      link_down =
+          λ e. absurd (let f = e in cc);
+      time = lt;
+    }
 
 framed_length : (number : ℕ) (bytes : List ℕ) → length (framed number bytes) ≡ 6 + length bytes
 unfolding framed
 framed_length number bytes =
-    let all = length-append (big_bytes 2 number ++ bytes) (crc32_of (big_bytes 2 number ++ bytes)) in
+    let all = length-append (big_bytes 2 number
+    ++ bytes) (crc32_of (big_bytes 2 number ++ bytes)) in
     let crc = length-crc32_of (big_bytes 2 number ++ bytes) in
     omega arith
 
@@ -60,25 +71,40 @@ tlp_length x plain =
     let c = length-append (x.prefixes ++ header_bytes x ++ x.payload) (digest_bytes x.digest) in
     omega arith
 
-tlp_lawful : (time : ℕ) (dir : Dir) (number : ℕ) (x : Fields) → IsPlain x → time < 2 ^ 64 → IsLawful (tlp time dir number x)
+tlp_lawful : (time : ℕ) (dir : Dir) (number : ℕ) (x : Fields) → IsPlain x → time < 2 ^ 64
+    → IsLawful (tlp time dir number x)
 tlp_lawful time dir number x plain lt =
     let whole = framed_length number (tlp_bytes x) in
     let size = tlp_length x plain in
     let payload = plain.payload in
-    record { tlp = λ e. (omega arith, omega arith); dllp = λ e. absurd (let f = e in cc); link_down = λ e. absurd (let f = e in cc); time = lt }
+    record {
+      tlp = λ e. (omega arith, omega arith);
+      dllp =
+          λ e. absurd (let f = e in cc);
+      link_down = λ e. absurd (let f = e in cc);
+      time = lt;
+    }
 
-all_append : (xs ys : List Entry) → AllByRecursion IsLawful xs → AllByRecursion IsLawful ys → AllByRecursion IsLawful (xs ++ ys)
+all_append : (xs ys : List Entry) → AllByRecursion IsLawful xs → AllByRecursion IsLawful ys
+    → AllByRecursion IsLawful (xs ++ ys)
 all_append [] ys a b = b
 all_append (x ∷ xs) ys a b = (a.0, all_append xs ys a.1 b)
 
-bring_up_lawful : (stage : Stage) (first : ℕ) → first ≤ 7 → AllByRecursion IsLawful (bring_up stage first)
+bring_up_lawful : (stage : Stage) (first : ℕ) → first ≤ 7
+    → AllByRecursion IsLawful (bring_up stage first)
 bring_up_lawful stage first le = (
   dllp_lawful _ _ _ (credit_length _) (omega arith),
   (
     dllp_lawful _ _ _ (credit_length _) (omega arith),
     (
       dllp_lawful _ _ _ (credit_length _) (omega arith),
-      (dllp_lawful _ _ _ (credit_length _) (omega arith), (dllp_lawful _ _ _ (credit_length _) (omega arith), (dllp_lawful _ _ _ (credit_length _) (omega arith), tt))),
+      (
+        dllp_lawful _ _ _ (credit_length _) (omega arith),
+        (
+          dllp_lawful _ _ _ (credit_length _) (omega arith),
+          (dllp_lawful _ _ _ (credit_length _) (omega arith), tt),
+        ),
+      ),
     ),
   ),
 )
@@ -98,7 +124,10 @@ round_lawful k x lt =
           tlp_lawful _ _ _ _ (completion_plain k _ _ _ most.0) (omega arith),
           (
             tlp_lawful _ _ _ _ (completion_plain k _ _ _ most.1) (omega arith),
-            (dllp_lawful _ _ _ (ack_length _) (omega arith), (dllp_lawful _ _ _ (credit_length _) (omega arith), tt)),
+            (
+              dllp_lawful _ _ _ (ack_length _) (omega arith),
+              (dllp_lawful _ _ _ (credit_length _) (omega arith), tt),
+            ),
           ),
         ),
       ),
@@ -107,11 +136,15 @@ round_lawful k x lt =
 rounds_lawful : (x k n : ℕ) → k + n ≤ 1000000 → AllByRecursion IsLawful (rounds x k n)
 unfolding rounds
 rounds_lawful x k zero le = tt
-rounds_lawful x k (suc n) le = all_append (round k (step x)) (rounds (step x) (suc k) n) (round_lawful k (step x) (omega arith)) (rounds_lawful (step x) (suc k) n (omega arith))
+rounds_lawful x k (suc n) le =
+    all_append (round k (step x)) (rounds (step x) (suc k) n)
+    (round_lawful k (step x) (omega arith)) (rounds_lawful (step x) (suc k) n (omega arith))
 
-pub items_lawful : (number count : ℕ) → count ≤ 1000000 → AllByRecursion IsLawful (items number count)
+pub items_lawful : (number count : ℕ) → count ≤ 1000000
+    → AllByRecursion IsLawful (items number count)
 unfolding items
 items_lawful number count most =
     all_append (bring_up Init1 1 ++ bring_up Init2 7) (rounds number 0 count)
-    (all_append (bring_up Init1 1) (bring_up Init2 7) (bring_up_lawful Init1 1 (omega arith)) (bring_up_lawful Init2 7 (omega arith)))
+    (all_append (bring_up Init1 1) (bring_up Init2 7) (bring_up_lawful Init1 1 (omega arith))
+    (bring_up_lawful Init2 7 (omega arith)))
     (rounds_lawful number 0 count (omega arith))

@@ -1,7 +1,9 @@
-pub mod Placing
 pub mod Dllps
-pub mod Tlps
-pub mod Records
+pub mod Framing
+pub mod Headers
 pub mod Lawful
-pub mod Lefts
 pub mod Lawfulness
+pub mod Lefts
+pub mod Placing
+pub mod Records
+pub mod Tlps

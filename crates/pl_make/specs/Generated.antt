@@ -1,8 +1,7 @@
 -- The capture that two numbers make. Two ends bring up virtual channel 0; then in each round the
 -- device at the lower end reads memory, and the Root Complex answers with two completions.
-use Rattle.std.specs.Prelude.{◌≡◌, ◌<◌, ◌≤◌, ℕ, zero, suc, ◌+◌, ◌-◌, ◌*◌, ◌/◌, ◌%◌, ◌^◌}
-use Rattle.std.specs.Prelude.{Bool, false, None}
-use Rattle.std.specs.Prelude.{List, [], ◌∷◌, ◌++◌, length, replicate}
+use Rattle.std.specs.Prelude.{◌≡◌, ◌<◌, ◌≤◌, ℕ, zero, suc, ◌+◌, ◌-◌, ◌*◌, ◌/◌, ◌%◌, ◌^◌, false}
+use Rattle.std.specs.Prelude.{None, List, [], ◌∷◌, ◌++◌, length, replicate}
 use Rattle.std.specs.List.{flat_map}
 use Rattle.pl_base.specs.declared.link.Class.{Class}
 use Rattle.pl_base.specs.declared.link.Class.TheVariants.{P, Np, Cpl}
@@ -129,7 +128,8 @@ read k draw = record (plain MRd (draw.before + draw.behind) (k % 256)) {
   address = start draw;
 }
 
--- a completion of `part` DW from this address on, where `left` DW of the read are to be answered yet
+-- a completion of `part` DW from this address on, where `left` DW of the read are to be answered
+-- yet
 abbrev pub completion : ℕ → ℕ → ℕ → ℕ → Fields
 completion k left address part = record (plain CplD part (k % 256)) {
   byte_count = 4 * left;

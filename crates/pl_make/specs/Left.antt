@@ -1,6 +1,6 @@
 -- What is left of a capture while it is made and read.
-use Rattle.std.specs.Prelude.{ℕ, suc, ◌+◌, ◌-◌, ◌*◌, List, [], ◌++◌, get_or, take, drop}
-use Rattle.std.specs.Prelude.{Option, Some, None}
+use Rattle.std.specs.Prelude.{ℕ, suc, ◌+◌, ◌-◌, ◌*◌, List, [], ◌++◌, get_or, take, drop, Option}
+use Rattle.std.specs.Prelude.{Some, None}
 use Rattle.std.specs.List.{flat_map}
 use Rattle.pl_base.specs.declared.link.Dir.TheVariants.{Down}
 use Rattle.pl_capture.specs.Entry.{Entry}

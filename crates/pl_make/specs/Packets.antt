@@ -1,8 +1,8 @@
 -- The bytes of a packet from its fields, by the tables of fields that the packets are read by.
 -- PCI Express Base Specification 5.0, chapter 2 (TLP headers) and chapter 3 (framing, DLLP formats,
 -- CRCs).
-use Rattle.std.specs.Prelude.{◌≡◌, ◌⊎◌, ◌≤◌, ℕ, ◌/◌, ◌%◌, false, None, List, [], ◌∷◌, ◌++◌}
-use Rattle.std.specs.Prelude.{length, is_some, if◌then◌else◌}
+use Rattle.std.specs.Prelude.{◌≡◌, ◌⊎◌, ◌≤◌, ℕ, ◌/◌, ◌%◌, false, None, List, [], ◌∷◌, ◌++◌, length}
+use Rattle.std.specs.Prelude.{is_some, if◌then◌else◌}
 use Rattle.std.specs.Int.{from_bool}
 use Rattle.byteorder.specs.Endian.{big_bytes}
 use Rattle.pl_base.specs.Bits.{bits}

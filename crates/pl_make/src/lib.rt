@@ -1,5 +1,5 @@
-//! Captures that two numbers make, byte by byte while they are read: large valid link traffic to try
-//! and time the analyser with, which takes no memory and no file.
+//! Captures that two numbers make, byte by byte while they are read: large valid link traffic to
+//! try and time the analyser with, which takes no memory and no file.
 #![tactic(auto)]
 
 mod draw;

@@ -1,7 +1,7 @@
 //! The shelf whose every file is a generated capture.
 ghost use Rattle.std.specs.Prelude.{◌≡◌, ◌≤◌, ◌<◌, List, ℕ, true, false, Some, None};
 ghost use Rattle.std.specs.Prelude.{option_map, is_some};
-ghost use Rattle.std.specs.Prelude.{refl, length, take, IfOk, IsOk, IsSome, min};
+ghost use Rattle.std.specs.Prelude.{refl};
 ghost use Rattle.std.proofs.Common.{arith};
 
 use crate::making::Making;
@@ -33,8 +33,8 @@ pub(crate) struct Opened {
 impl Maker {
     ghost use Rattle.pl_make.specs.Generated.{Gen};
 
-    /// A shelf of the capture with this many rounds, 1 to 1,000,000, drawn from `number`. No file is
-    /// open, and none was ever opened.
+    /// A shelf of the capture with this many rounds, 1 to 1,000,000, drawn from `number`. No file
+    /// is open, and none was ever opened.
     ///
     /// The capture has `12 + 6 * count` items: the bring-up of a link, and for each round a memory
     /// read that is answered by two completions, their Acks, and the credit that the read took. It
@@ -59,8 +59,6 @@ impl Maker {
 }
 
 impl Shelf for Maker {
-    ghost use Rattle.pl_io.specs.Faults.{HasCause, raised};
-    ghost use Rattle.pl_io.specs.Told.{ahead};
     ghost use Rattle.pl_make.specs.Generated.{Gen};
     ghost use Rattle.pl_make.specs.Left.{left};
     ghost use Rattle.pl_make.specs.OpenName.{name_in};

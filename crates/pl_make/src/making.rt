@@ -1,5 +1,5 @@
 //! A capture that is made while it is read, one record after the other.
-ghost use Rattle.std.specs.Prelude.{◌≡◌, ◌<◌, ◌≤◌, ◌^◌, ◌++◌, [], length, take, min};
+ghost use Rattle.std.specs.Prelude.{◌≡◌, ◌<◌, ◌≤◌, ◌++◌, [], length, take};
 
 use crate::position::Position;
 use crate::record::Record;

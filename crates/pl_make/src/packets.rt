@@ -1,7 +1,8 @@
 //! The bytes of the packets that a generated capture has.
-//! PCI Express Base Specification 5.0, chapter 2 (TLP headers) and chapter 3 (framing, DLLP formats,
-//! CRCs).
-ghost use Rattle.std.specs.Prelude.{◌≡◌, ◌≤◌, ◌<◌, length, take};
+//! PCI Express Base Specification 5.0, chapter 2 (TLP headers) and chapter 3 (framing, DLLP
+//! formats, CRCs).
+ghost use Rattle.std.specs.Prelude.{◌≡◌, ◌≤◌, ◌<◌, ◌+◌, ◌++◌, length, take};
+ghost use Rattle.pl_crc.specs.Remainder.{crc32_of};
 ghost use Rattle.pl_base.specs.Bits.{value};
 ghost use Rattle.pl_dllp.specs.Frame.{frame, reserved_bits};
 ghost use Rattle.pl_dllp.specs.declared.packet.Decoded.TheVariants.{Ok};
@@ -81,9 +82,17 @@ pub(crate) fn frame(number: u16, tlp: &Tlp, out: &mut [u8; LONGEST]) -> usize
 {
     out[..2].copy_from_slice(&number.to_be_bytes());
     let size = 2 + write_tlp(tlp, &mut out[2..]);
+    append_lcrc(out, size);
+    size + 4
+}
+
+/// Writes the LCRC of the first `size` bytes behind them.
+fn append_lcrc(out: &mut [u8; LONGEST], size: usize)
+    requires { size ≤ 78 }
+    ensures { take (size + 4) out.new ≡ take size out.old ++ crc32_of (take size out.old) }
+{
     let lcrc = crc32(&out[..size]);
     out[size..size + 4].copy_from_slice(&lcrc);
-    size + 4
 }
 
 /// Writes a TLP at the front of `out`, and says how many bytes it has.

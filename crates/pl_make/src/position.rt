@@ -1,5 +1,5 @@
 //! Where a capture stands: which of its items is made next.
-ghost use Rattle.std.specs.Prelude.{◌≡◌, ◌<◌, ◌≤◌, ◌+◌, ◌*◌, ◌-◌, ◌/◌, ◌%◌, ◌∷◌, ◌^◌};
+ghost use Rattle.std.specs.Prelude.{◌≡◌, ◌<◌, ◌≤◌, ◌+◌, ◌-◌, ◌∷◌};
 
 use crate::draw::step;
 
@@ -31,7 +31,7 @@ pub(crate) struct Position {
 impl Position {
     ghost use Rattle.pl_make.specs.Generated as generated;
     ghost use Rattle.pl_make.specs.declared.position.Group.TheVariants.{FirstInit, Round};
-    ghost use Rattle.pl_make.specs.Left.{items_from, items_from_next, six, behind};
+    ghost use Rattle.pl_make.specs.Left.{items_from, items_from_next};
     ghost use Rattle.pl_make.specs.Left as spec;
 
     /// The first item of a capture.

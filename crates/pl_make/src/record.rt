@@ -1,5 +1,5 @@
 //! One record of the capture, which is made whole and then read in parts.
-ghost use Rattle.std.specs.Prelude.{◌≡◌, ◌≤◌, ◌++◌, [], length, take, min};
+ghost use Rattle.std.specs.Prelude.{◌≡◌, ◌≤◌, ◌++◌, length, take, min};
 ghost use Rattle.std.specs.Prelude.{nat_eq};
 
 use pl_capture::{Item, write_end, write_header, write_item};

@@ -1,4 +1,5 @@
-//! Captures made apart from this program, from the words that describe them, by a script that divides bit by bit.
+//! Captures made apart from this program, from the words that describe them, by a script that
+//! divides bit by bit.
 use crate::Maker;
 use pl_io::Shelf;
 use std::alloc::Global;

@@ -4,7 +4,8 @@ use Rattle.pl_make.proofs.items.put_tlp.Goals as goal
 
 pub put_item-requires-clause-lawful : goal.put_item-requires-clause-lawful
 put_item-requires-clause-lawful c =
-    let size : length (take c.frame-size.result c.frame-size.new.out) ≡ c.frame-size.result = length-take-le c.frame-size.result c.frame-size.new.out (omega arith) in
+    let size : length (take c.frame-size.result c.frame-size.new.out) ≡ c.frame-size.result =
+    length-take-le c.frame-size.result c.frame-size.new.out (omega arith) in
     record {
       tlp = λ e. (omega arith, omega arith);
       dllp = λ e. absurd (let f = e in cc);

@@ -7,4 +7,5 @@ use Rattle.pl_make.proofs.laws.read_as_items.Goals as goal
 pub returns : goal.returns
 unfolding Gen
 returns c = λ number count most.
-    c.reads_back.ensures (items number count) 0 (items_lawful number count most) (lit< tt) (omega (arith, items_length number count))
+    c.reads_back.ensures (items number count) 0 (items_lawful number count most) (lit< tt)
+    (omega (arith, items_length number count))

@@ -1,4 +1,4 @@
-use Rattle.std.proofs.Common.{◌≡◌, take, drop, ap, ◌∙◌}
+use Rattle.std.proofs.Common.{take, ap, ◌∙◌}
 use Rattle.pl_make.proofs.Records.{read_more}
 use Rattle.pl_make.proofs.record.Record.read.Goals as goal
 
