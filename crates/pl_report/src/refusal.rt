@@ -1,10 +1,12 @@
 //! The lines of the refusals.
 ghost use Rattle.std.specs.Prelude.{◌≡◌, ◌≤◌, length};
-ghost use Rattle.pl_report.specs.Lines.{refusal_text, stop_text, profile_error_text, length_text};
+ghost use Rattle.pl_report.specs.Lines.{refusal_text, stop_text, profile_error_text};
+ghost use Rattle.pl_report.specs.Lines.{placed_text, filter_error_text, length_text};
 ghost use Rattle.pl_report.specs.Lines.{read_fault_text, usage_text};
 
 use crate::line::{Line, push_number};
 use pl_base::Stop;
+use pl_filter::FilterError;
 
 /// The line of a refusal in the capture; empty for want of memory, for which nothing is written.
 #[tactic(auto, unfolding(crate::specs::Lines::stop_text))]
@@ -51,6 +53,31 @@ pub fn profile_error_line(number: u8) -> Line
     let mut line = Line::new();
     line.push_str("profile error ");
     push_number(&mut line, u64::from(number));
+    line.push_str("\n");
+    line
+}
+
+/// `filter error N at P`: the number of the filter's refusal, and the bytes of its text before the
+/// place. Empty for want of memory, for which nothing is written.
+#[tactic(auto, unfolding(crate::specs::Lines::filter_error_text))]
+pub fn filter_error_line(error: &FilterError) -> Line
+    ensures { result.bytes ≡ filter_error_text error.now }
+{
+    match *error {
+        FilterError::Syntax(at) | FilterError::TooDeep(at) => placed_line(error.number(), at),
+        FilterError::Memory => Line::new(),
+    }
+}
+
+/// `filter error N at P`.
+fn placed_line(number: u8, at: usize) -> Line
+    ensures { result.bytes ≡ placed_text number at }
+{
+    let mut line = Line::new();
+    line.push_str("filter error ");
+    push_number(&mut line, u64::from(number));
+    line.push_str(" at ");
+    push_number(&mut line, at as u64);
     line.push_str("\n");
     line
 }
