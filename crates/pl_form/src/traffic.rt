@@ -8,11 +8,8 @@ ghost use Rattle.pl_form.specs.Traffic as spec;
 
 use crate::memory::is_too_long;
 use pl_base::Dir;
-use pl_profile::Profile;
+use pl_profile::{NO_CHANNEL, Profile};
 use pl_tlp::Tlp;
-
-/// What a profile has for a traffic class without a virtual channel.
-const NO_CHANNEL: u8 = 8;
 
 /// M16: the TC has no VC.
 #[tactic(auto, unfolding(pl_base::specs::Bits::bits))]
