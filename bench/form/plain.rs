@@ -210,8 +210,13 @@ fn judge_whole(profile: &Profile, dir: Dir, tlp: &Tlp, at: u64, found: &mut Foun
     if !tlp.prefixes.is_empty() {
         found.add_if(breaks_m19(tlp.prefixes), Rule::M19, at);
     }
-    if profile.tag_bits == 5 && needs_completion(tlp.kind) {
-        found.add_if(tlp.tag / 32 % 8 != 0, Rule::M20, at);
+    let beyond = match profile.tag_bits {
+        5 => tlp.tag / 32 % 32,
+        8 => tlp.tag / 256 % 4,
+        _ => 0,
+    };
+    if beyond != 0 && needs_completion(tlp.kind) {
+        found.add_if(true, Rule::M20, at);
     }
 }
 

@@ -272,7 +272,7 @@ struct Pairs {
 }
 
 fn key(direction: usize, tlp: &Tlp) -> u32 {
-    ((direction as u32) << 24) + (u32::from(tlp.requester) << 8) + u32::from(tlp.tag)
+    ((direction as u32) << 26) + (u32::from(tlp.requester) << 10) + u32::from(tlp.tag)
 }
 
 impl Pairs {

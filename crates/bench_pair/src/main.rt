@@ -40,7 +40,6 @@ fn main(rt: HostRuntime) -> io::Result<()> {
 #[tactic(auto, unfolding(pl_base::specs::Bits::bits))]
 fn read(number: u32) -> Tlp<'static>
     ensures needs { kinds.needs_completion result.kind ≡ true }
-    ensures tag { result.tag < 256 }
     ensures fits { Fits (fields result) }
 {
     Tlp {
@@ -75,7 +74,6 @@ fn read(number: u32) -> Tlp<'static>
 #[tactic(auto, unfolding(pl_base::specs::Bits::bits))]
 fn completion(number: u32) -> Tlp<'static>
     ensures is { kinds.is_completion result.kind ≡ true }
-    ensures tag { result.tag < 256 }
     ensures fits { Fits (fields result) }
 {
     Tlp {

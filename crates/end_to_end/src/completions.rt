@@ -109,6 +109,34 @@ fn reads_are_answered_by_count_address_and_boundary(rt: HostRuntime) -> Result<(
 }
 
 #[test]
+fn all_ten_bits_of_a_tag_tell_transactions_apart(rt: HostRuntime) -> Result<(), Fail> {
+    judge(
+        rt.alloc(),
+        &[
+            Case::under(
+                "tag_bits = 10",
+                "B0; 13 Up MRd n=0 tag=5 addr=1000 len=1; 14 Up MRd n=1 tag=205 addr=1000 len=2; \
+                 15 Down CplD n=0 tag=205 bc=8 la=0 len=2; 16 Down CplD n=1 tag=5 bc=4 la=0 len=1",
+                0,
+                "end items 16 verdicts 0",
+            ),
+            Case::under(
+                "tag_bits = 10",
+                "B0; 13 Up MRd n=0 tag=105 addr=1000 len=1; 14 Down MRd n=0 tag=105 addr=1000 len=2; \
+                 15 Up CplD n=1 tag=105 bc=8 la=0 len=2; 16 Down CplD n=1 tag=105 bc=4 la=0 len=1",
+                0,
+                "end items 16 verdicts 0",
+            ),
+            Case::new(
+                "B0; 13 Up MRd n=0 tag=5 addr=1000 len=1; 14 Down CplD n=0 tag=105 bc=4 la=0 len=1",
+                1,
+                "item 14 rule C1 first - second -; end items 14 verdicts 1",
+            ),
+        ],
+    )
+}
+
+#[test]
 fn a_tag_is_free_once_its_request_has_ended(rt: HostRuntime) -> Result<(), Fail> {
     judge(
         rt.alloc(),

@@ -99,15 +99,16 @@ fn translation_requests_and_hints_are_exempt_from_some_rules(rt: HostRuntime) ->
 }
 
 #[test]
-fn tags_of_ten_bits_are_named_and_not_judged(rt: HostRuntime) -> Result<(), Fail> {
+fn a_tag_keeps_to_the_bits_in_use(rt: HostRuntime) -> Result<(), Fail> {
+    let reads = "B0; 13 Up MRd n=0 tag=105 addr=1000 len=1; 14 Up MRd n=1 tag=5 addr=1000 len=1; \
+        15 Down CplD n=0 tag=105 bc=4 la=0 len=1; 16 Down CplD n=1 tag=5 bc=4 la=0 len=1";
+    let too_wide = "item 13 rule M20 first - second -; end items 16 verdicts 1";
     judge(
         rt.alloc(),
         &[
-            Case::new(
-                "B0; 13 Up MRd n=0 tag=105 addr=1000 len=1",
-                6,
-                "unsupported 3 at item 13",
-            ),
+            Case::under("tag_bits = 10", reads, 0, "end items 16 verdicts 0"),
+            Case::new(reads, 1, too_wide),
+            Case::under("tag_bits = 5", reads, 1, too_wide),
             Case::new("B0; 13 Up MWr n=0 tag=105", 0, "end items 13 verdicts 0"),
         ],
     )

@@ -39,8 +39,10 @@ fn each_refusal_of_a_profile_has_its_number(rt: HostRuntime) -> Result<(), Fail>
     assert!(rt; outcome.is(3, "profile error 2\n"), "{outcome:?}");
     let outcome = check_under(rt.alloc(), "profile", b"vcs = \"1\"")?;
     assert!(rt; outcome.is(3, "profile error 3\n"), "{outcome:?}");
-    let outcome = check_under(rt.alloc(), "profile", b"max_payload = [300, 256]")?;
-    assert!(rt; outcome.is(3, "profile error 4\n"), "{outcome:?}");
+    for text in ["max_payload = [300, 256]", "tag_bits = 9"] {
+        let outcome = check_under(rt.alloc(), "profile", text.as_bytes())?;
+        assert!(rt; outcome.is(3, "profile error 4\n"), "{text}: {outcome:?}");
+    }
     Ok(())
 }
 

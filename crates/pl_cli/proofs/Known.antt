@@ -11,7 +11,7 @@ use Rattle.pl_capture.proofs.Fronts.{seen, partial, refused, whole, last, front_
 use Rattle.pl_capture.proofs.Records.{records_partial, records_refused, records_whole, records_ended, records_trailing}
 use Rattle.pl_capture.proofs.Wholes.{header, short, faulty, good, reading_bad, reading_good, reading_short}
 use Rattle.pl_engine.specs.declared.refused.Refused.{Refused}
-use Rattle.pl_engine.specs.declared.refused.Refused.TheVariants.{Outstanding, Unacknowledged, TenBitTag}
+use Rattle.pl_engine.specs.declared.refused.Refused.TheVariants.{Outstanding, Unacknowledged}
 use Rattle.pl_engine.specs.Verdicts.{stop_of}
 use Rattle.pl_cli.specs.Output.{stop_status}
 
@@ -64,4 +64,3 @@ reader_known b s bad =
 pub engine_known : (r : Refused) (n : ℕ) → stop_status (stop_of r n) ≤ 6
 engine_known (Outstanding limit) n = omega arith
 engine_known (Unacknowledged limit) n = omega arith
-engine_known TenBitTag n = omega arith

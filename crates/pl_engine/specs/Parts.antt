@@ -1,11 +1,11 @@
 -- When the parts stand for a history, and what they can take.
-use Rattle.std.specs.Prelude.{◌≡◌, ℕ, ◌<◌, true, ◌||◌, List, Option, Some, None}
+use Rattle.std.specs.Prelude.{◌≡◌, ℕ, true, List, Option, Some, None}
 use Rattle.pl_base.specs.declared.link.Dir.{Dir}
 use Rattle.pl_capture.specs.Entry.{Entry}
 use Rattle.pl_tlp.specs.Fields.{Fields}
 use Rattle.pl_credit.specs.Credits as credit
 use Rattle.pl_pair.specs.History.{request_id}
-use Rattle.pl_tlp.specs.Groups.{needs_completion, is_completion}
+use Rattle.pl_tlp.specs.Groups.{needs_completion}
 use Rattle.pl_pair.specs.Pairs as pair
 use Rattle.pl_profile.specs.declared.profile.Profile.{Profile}
 use Rattle.pl_engine.specs.declared.parts.Parts.{Parts}
@@ -24,9 +24,8 @@ pub record IsReady (profile : Profile) (at : ℕ) (parts : Parts) : Type 0 where
   pub credits : parts.credits.profile ≡ profile
   pub pairs : pair.room_of parts.pairs ≡ profile.outstanding
 
--- a request or a completion that the pairs can take: its Tag has 8 bits, and there is room for it
+-- a TLP that the pairs can take: where it is a request, there is room for it
 pub record IsTakable (pairs : pair.Kept) (dir : Dir) (fields : Fields) : Type 0 where
-  pub tag : (needs_completion fields.kind || is_completion fields.kind) ≡ true → fields.tag < 256
   pub room : needs_completion fields.kind ≡ true → pair.LacksRoom pairs (request_id dir fields) → ⊥
 
 abbrev pub IsTakableIfWhole : pair.Kept → Dir → Option Fields → Type 0

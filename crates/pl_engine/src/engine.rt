@@ -62,8 +62,7 @@ impl Engine {
     /// # Errors
     ///
     /// Where the item would be taken and has no room among the unacknowledged TLPs of its
-    /// direction, where it is a request that needs a completion or a completion with a tag of ten
-    /// bits, or where it has no room among the open requests; in this order. The engine is then
+    /// direction, or where it has no room among the open requests; in this order. The engine is then
     /// unchanged.
     pub fn feed(&mut self, item: &Item) -> Result<Found, Refused>
         requires lawful { IsLawful (entry item.now) }

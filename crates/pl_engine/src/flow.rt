@@ -12,11 +12,8 @@ ghost use Rattle.pl_engine.specs.Verdicts.{broken_by};
 use pl_base::{Dir, Found, MOST_VERDICTS};
 use pl_credit::{Credits, MOST_OF_AN_ITEM};
 use pl_dllp::{Decoded, Dllp};
-use pl_profile::Profile;
+use pl_profile::{NO_CHANNEL, Profile};
 use pl_tlp::{View, cost};
-
-/// In a profile, a Traffic Class that has no virtual channel.
-const NO_CHANNEL: u8 = 8;
 
 /// A TLP that is taken comes as number `at`: F1, F9 and F10, behind what was found before. It
 /// spends credits where it is well-formed and its Traffic Class has a virtual channel.

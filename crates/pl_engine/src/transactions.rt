@@ -3,7 +3,7 @@
 ghost use Rattle.std.specs.Prelude.{◌≡◌, ◌+◌, ◌≤◌, ◌++◌, List, None, Some};
 ghost use Rattle.arrayvec.specs.ArrayVec.{array_vec_len};
 ghost use Rattle.pl_tlp.specs.Fields.{fields, outcome};
-ghost use Rattle.pl_tlp.specs.Fit.{FitsIfWhole};
+ghost use Rattle.pl_tlp.specs.Fit.{Fits, FitsIfWhole};
 ghost use Rattle.pl_pair.specs.History.{Event};
 ghost use Rattle.pl_pair.specs.Pairs.{StandsFor, room_of};
 ghost use Rattle.pl_pair.specs.Rules.{pair_verdicts};
@@ -17,11 +17,11 @@ use pl_pair::{MOST_OF_A_COMPLETION, Pairs};
 use pl_profile::Profile;
 use pl_tlp::{Tlp, View};
 
-/// Why a TLP that would be taken isn't judged, if it isn't: it is a request that needs a
-/// completion, or a completion, with a tag of ten bits, or a request for which there is no room
-/// among the open ones.
+/// Why a TLP that would be taken isn't judged, if it isn't: it is a request for which there is no
+/// room among the open ones.
 pub(crate) fn refusal(pairs: &Pairs, profile: &Profile, dir: Dir, packet: &View) -> Option<Refused>
-    requires { room_of pairs.now ≡ profile.now.outstanding }
+    requires room { room_of pairs.now ≡ profile.now.outstanding }
+    requires fits { FitsIfWhole (outcome packet.now) }
     ensures past { (past : List Event) → StandsFor pairs.now past →
         result ≡ refused_by profile.now past dir (if_whole (outcome packet.now)) }
     ensures takable { result ≡ None →
@@ -35,15 +35,12 @@ pub(crate) fn refusal(pairs: &Pairs, profile: &Profile, dir: Dir, packet: &View)
 
 /// Why this well-formed TLP isn't judged, if it isn't.
 fn refusal_of(pairs: &Pairs, profile: &Profile, dir: Dir, tlp: &Tlp) -> Option<Refused>
-    requires { room_of pairs.now ≡ profile.now.outstanding }
+    requires room { room_of pairs.now ≡ profile.now.outstanding }
+    requires fits { Fits (fields tlp.now) }
     ensures past { (past : List Event) → StandsFor pairs.now past →
         result ≡ refused_by profile.now past dir (Some (fields tlp.now)) }
     ensures takable { result ≡ None → IsTakable pairs.now dir (fields tlp.now) }
 {
-    if tlp.tag >= 256 {
-        let is_transaction = tlp.kind.needs_completion() || tlp.kind.is_completion();
-        return is_transaction.then_some(Refused::TenBitTag);
-    }
     if pairs.full_for(dir, tlp) {
         return Some(Refused::Outstanding(profile.outstanding));
     }

@@ -8,11 +8,8 @@ ghost use Rattle.pl_form.specs.Traffic as spec;
 
 use crate::memory::is_too_long;
 use pl_base::Dir;
-use pl_profile::Profile;
+use pl_profile::{NO_CHANNEL, Profile};
 use pl_tlp::Tlp;
-
-/// What a profile has for a traffic class without a virtual channel.
-const NO_CHANNEL: u8 = 8;
 
 /// M16: the TC has no VC.
 #[tactic(auto, unfolding(pl_base::specs::Bits::bits))]
@@ -30,9 +27,15 @@ pub(crate) fn breaks_m17(profile: &Profile, dir: Dir, tlp: &Tlp) -> bool
     tlp.kind.is_completion_with_data() && is_too_long(profile, dir, tlp)
 }
 
-/// M20: a request that needs a completion uses Tag[7:5], where the requester has five bits of tag.
+/// M20: a request that needs a completion uses Tag[9:5], where the requester has five bits of tag,
+/// or Tag[9:8], where it has eight.
 pub(crate) fn breaks_m20(profile: &Profile, tlp: &Tlp) -> bool
     ensures { result ≡ spec.breaks_m20 profile.now (fields tlp.now) }
 {
-    profile.tag_bits == 5 && tlp.kind.needs_completion() && tlp.tag / 32 % 8 != 0
+    let beyond = match profile.tag_bits {
+        5 => tlp.tag / 32 % 32,
+        8 => tlp.tag / 256 % 4,
+        _ => 0,
+    };
+    beyond != 0 && tlp.kind.needs_completion()
 }

@@ -1,6 +1,6 @@
 //! The open requests of both directions, and what breaks C1 to C10.
 //! PCI Express Base Specification 5.0, chapter 2: transaction ordering and completion rules.
-ghost use Rattle.std.specs.Prelude.{◌≡◌, ◌+◌, ◌<◌, ◌≤◌, ◌↔◌, List, [], ◌∷◌, ◌++◌, None, IfOk};
+ghost use Rattle.std.specs.Prelude.{◌≡◌, ◌+◌, ◌≤◌, ◌↔◌, List, [], ◌∷◌, ◌++◌, None, IfOk};
 ghost use Rattle.std.specs.Prelude.{IsTrue, true};
 ghost use Rattle.std.specs.FinMap as map;
 ghost use Rattle.arrayvec.specs.ArrayVec.{array_vec_len};
@@ -95,10 +95,8 @@ impl Pairs {
     /// Whether there is no room for this TLP: a request that needs a completion and would be open
     /// beside as many others as there is room for. A request whose transaction ID is in use takes
     /// the place of the open one.
-    ///
-    /// The Tag is below 256.
     pub fn full_for(&self, dir: Dir, tlp: &Tlp) -> bool
-        requires { tlp.now.tag < 256 }
+        requires { Fits (fields tlp.now) }
         ensures now { IsTrue result
             ↔ ((kinds.needs_completion tlp.now.kind ≡ true)
             × LacksRoomFor self.now.table (key_of (request_id dir (fields tlp.now)))) }
@@ -118,10 +116,9 @@ impl Pairs {
     /// breaks C2. It takes the place of an open request with its transaction ID. From then on the
     /// pairs stand for the history with it.
     ///
-    /// The Tag is below 256, and there is room: see `full_for`.
+    /// There is room: see `full_for`.
     pub fn request(&mut self, dir: Dir, tlp: &Tlp, at: u64) -> Found
         requires needs { kinds.needs_completion tlp.now.kind ≡ true }
-        requires tag { tlp.now.tag < 256 }
         requires fits { Fits (fields tlp.now) }
         requires room { LacksRoomFor self.old.table (key_of (request_id dir (fields tlp.now))) → ⊥ }
         ensures verdicts { (past : List Event) (profile : Profile) → StandsFor self.old past
@@ -140,7 +137,6 @@ impl Pairs {
     #[tactic(auto, unfolding(crate::specs::Rules::pair_verdicts))]
     pub fn request_into(&mut self, dir: Dir, tlp: &Tlp, at: u64, found: &mut Found)
         requires needs { kinds.needs_completion tlp.now.kind ≡ true }
-        requires tag { tlp.now.tag < 256 }
         requires fits { Fits (fields tlp.now) }
         requires room { LacksRoomFor self.old.table (key_of (request_id dir (fields tlp.now))) → ⊥ }
         requires few { array_vec_len found.old + 1 ≤ MOST_VERDICTS }
@@ -167,11 +163,8 @@ impl Pairs {
     /// A completion travels in direction `dir`, at position `at`: what it breaks of C3 to C10, or
     /// C1 alone where it names no open request. From then on the pairs stand for the history with
     /// it.
-    ///
-    /// The Tag is below 256.
     pub fn completion(&mut self, profile: &Profile, dir: Dir, tlp: &Tlp, at: u64) -> Found
         requires is { kinds.is_completion tlp.now.kind ≡ true }
-        requires tag { tlp.now.tag < 256 }
         requires fits { Fits (fields tlp.now) }
         ensures verdicts { (past : List Event) → StandsFor self.old past
             → result.items ≡ pair_verdicts profile.now past (Completion dir (fields tlp.now) at) }
@@ -196,7 +189,6 @@ impl Pairs {
         found: &mut Found,
     )
         requires is { kinds.is_completion tlp.now.kind ≡ true }
-        requires tag { tlp.now.tag < 256 }
         requires fits { Fits (fields tlp.now) }
         requires few { array_vec_len found.old + MOST_OF_A_COMPLETION ≤ MOST_VERDICTS }
         ensures verdicts { (past : List Event) → StandsFor self.old past

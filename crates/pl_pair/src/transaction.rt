@@ -1,14 +1,15 @@
 //! Transaction IDs.
 //! PCI Express Base Specification 5.0, chapter 2: transaction descriptor, transaction ID field.
-ghost use Rattle.std.specs.Prelude.{◌≡◌, ◌<◌};
+ghost use Rattle.std.specs.Prelude.{◌≡◌};
 ghost use Rattle.pl_tlp.specs.Fields.{fields};
+ghost use Rattle.pl_tlp.specs.Fit.{Fits};
 ghost use Rattle.pl_pair.specs.History.{answered_id, request_id};
 ghost use Rattle.pl_pair.specs.Pairs.{IsInRange, key_of};
 
 use pl_base::Dir;
 use pl_tlp::Tlp;
 
-/// The direction of a request, its Requester ID and its Tag.
+/// The direction of a request, its Requester ID and its Tag of ten bits.
 #[derive(Clone, Copy, Debug, PartialEq, Eq)]
 pub struct TransactionId {
     pub dir: Dir,
@@ -19,7 +20,7 @@ pub struct TransactionId {
 impl TransactionId {
     /// The transaction ID of a request that travels in direction `dir`.
     pub(crate) fn of_request(dir: Dir, tlp: &Tlp) -> TransactionId
-        requires { tlp.now.tag < 256 }
+        requires fits { Fits (fields tlp.now) }
         ensures id { result ≡ request_id dir (fields tlp.now) }
         ensures range { IsInRange result }
     {
@@ -32,7 +33,7 @@ impl TransactionId {
 
     /// The transaction ID of the request that a completion names which travels in direction `dir`.
     pub(crate) fn answered(dir: Dir, tlp: &Tlp) -> TransactionId
-        requires { tlp.now.tag < 256 }
+        requires fits { Fits (fields tlp.now) }
         ensures id { result ≡ answered_id dir (fields tlp.now) }
         ensures range { IsInRange result }
     {
@@ -43,11 +44,12 @@ impl TransactionId {
         }
     }
 
-    /// Its key in a table: the direction, the Requester ID and the Tag beside each other.
+    /// Its key in a table, below 2^27: the direction, the 16 bits of the Requester ID and the ten of
+    /// the Tag beside each other.
     pub(crate) fn key(self) -> u32
         requires { IsInRange self }
         ensures { result ≡ key_of self }
     {
-        ((self.dir.index() as u32) << 24) + (u32::from(self.requester) << 8) + u32::from(self.tag)
+        ((self.dir.index() as u32) << 26) + (u32::from(self.requester) << 10) + u32::from(self.tag)
     }
 }

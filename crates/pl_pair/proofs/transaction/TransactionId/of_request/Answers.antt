@@ -1,0 +1,10 @@
+use Rattle.std.proofs.Common.{arith}
+use Rattle.pl_tlp.specs.Kinds.{layout_of}
+use Rattle.pl_tlp.proofs.FirstDw.{tag_small}
+use Rattle.pl_pair.proofs.transaction.TransactionId.of_request.Goals as goal
+
+pub returns-clause-range : goal.returns-clause-range
+returns-clause-range c = record {
+  requester = omega arith;
+  tag = tag_small (layout_of c.args.tlp.now.kind) c.args.tlp.now.tag c.requires.fits.layout.tag;
+}
