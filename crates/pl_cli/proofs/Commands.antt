@@ -1,22 +1,25 @@
 -- The words of a command, and what its status says.
 use Rattle.std.proofs.Common.{◌≡◌, ◌≤◌, ◌<◌, ◌==◌, ◌⊎◌, inl, inr, List, ℕ, Bool, true, false, if◌then◌else◌, [], ◌∷◌, refl, ap, ◌∙◌, sym, length, take, map, get_or, Bor, arith, Option, Some, None}
-use Rattle.std.specs.Prelude.{codes, bytes_eq}
+use Rattle.std.specs.Prelude.{codes, bytes_eq, slice_get}
 use Rattle.std.proofs.lemmas.Slice.Eq.{bytes_eq-Decides}
 use Rattle.std.proofs.lemmas.Bool.{cases_lt}
-use Rattle.std.proofs.lemmas.List.{take_all}
+use Rattle.std.proofs.lemmas.List.{length-map, take_all}
 use Rattle.std.proofs.lemmas.Grind.{common_steps}
 use Rattle.std.proofs.lemmas.Bool.Decides.{nat_tests}
 use Rattle.pl_base.specs.declared.stop.Stop.{Stop}
 use Rattle.pl_base.specs.declared.stop.Stop.TheVariants.{Malformed, Unsupported, Outstanding, Unacknowledged, Memory}
 use Rattle.pl_base.specs.declared.verdict.Verdict.{Verdict}
 use Rattle.pl_capture.specs.Reading.{Reading, Ending, reading, Ended, Bad, Open}
+use Rattle.pl_io.specs.declared.shelf.Shelf as shelf
+use Rattle.pl_io.specs.declared.sink.Sink as sink
 use Rattle.pl_io.specs.Faults.{Rose}
 use Rattle.pl_profile.specs.declared.profile.Profile.{Profile}
 use Rattle.pl_engine.specs.Verdicts.{refusal, verdicts_after}
 use Rattle.pl_engine.specs.Judged.{judged_verdicts}
-use Rattle.pl_cli.specs.Output.{Cause, AtEnd, AtRefusal, AtLimit, AtFault, How, Whole, TooLong, Fault, cause, cause_of, cause_of_ending, cause_status, how_of, limit, status, status_of, stop_status}
+use Rattle.pl_cli.specs.Output.{Cause, AtEnd, AtRefusal, AtLimit, AtFault, Listing, How, Whole, TooLong, Fault, cause, cause_of, cause_of_ending, cause_status, how_of, limit, status, status_of, stop_status}
+use Rattle.pl_cli.specs.Promise.{Begins, IsList, IsNoCommand, Lists, Runs, filter_refused, lacking, listed, no_filter, refused, shows, texts}
 use Rattle.pl_cli.specs.Words.{IsUnrisen, RunsCleanly}
-use Rattle.pl_cli.proofs.Lists.{accepted_all}
+use Rattle.pl_engine.proofs.Lists.{accepted_all}
 
 -- a count that didn't rise
 pub not_risen : (before now : ℕ) → IsUnrisen before now → Rose before now → ⊥
@@ -85,24 +88,54 @@ clean_file p file h =
           ∙ ap (verdicts_after p []) (sym (accepted_all p [] r.items n.0)) ∙ none_left (judged_verdicts p r) e.1;
     }
 
--- Three words of which the first is `check` are its command.
-pub words_check : (words : List (Bor (List ℕ))) (d : Bor (List ℕ)) (r : Bool) → length words ≡ 3 → r ≡ bytes_eq (get_or words 0 d).now (codes "check") → r ≡ true →
-    (profile : List ℕ) × (capture : List ℕ) × (map (λ (w : Bor (List ℕ)). w.now) words ≡ codes "check" ∷ profile ∷ capture ∷ [])
-words_check (a ∷ b ∷ c ∷ []) d r len e h =
-    let first : a.now ≡ codes "check" = (bytes_eq-Decides a.now (codes "check")).0 (sym e ∙ h) in
-    (b.now, c.now, ap (λ (l : List ℕ). l ∷ b.now ∷ c.now ∷ []) first)
-words_check [] d r len e h = absurd (omega arith)
-words_check (a ∷ []) d r len e h = absurd (omega arith)
-words_check (a ∷ b ∷ []) d r len e h = absurd (omega arith)
-words_check (a ∷ b ∷ c ∷ x ∷ more) d r len e h = absurd (omega arith)
+-- ---- the words
 
--- and its names are those behind it
-pub names_are : (words : List (Bor (List ℕ))) (d : Bor (List ℕ)) (profile capture : List ℕ) →
-    map (λ (w : Bor (List ℕ)). w.now) words ≡ codes "check" ∷ profile ∷ capture ∷ [] →
-    map (λ (w : Bor (List ℕ)). w.now) words ≡ codes "check" ∷ (get_or words 1 d).now ∷ (get_or words 2 d).now ∷ []
-names_are [] d profile capture h = absurd cc
-names_are (a ∷ []) d profile capture h = absurd cc
-names_are (a ∷ b ∷ []) d profile capture h = absurd cc
-names_are (a ∷ b ∷ c ∷ []) d profile capture h =
-    let first : a.now ≡ codes "check" = cc in ap (λ (l : List ℕ). l ∷ b.now ∷ c.now ∷ []) first
-names_are (a ∷ b ∷ c ∷ x ∷ more) d profile capture h = absurd cc
+-- the first of some words
+pub first_is : (words : List (Bor (List ℕ))) (d : Bor (List ℕ)) (name : List ℕ) (count : ℕ) (r : Bool) → 0 < count → length words ≡ count →
+    r ≡ bytes_eq (get_or words 0 d).now name → (r ≡ true → Begins (texts words) name count) × (Begins (texts words) name count → r ≡ true)
+first_is [] d name count r some len e = absurd (omega arith)
+first_is (w ∷ words) d name count r some len e = (
+  λ yes. (length-map (λ (x : Bor (List ℕ)). x.now) (w ∷ words) ∙ len, ap Some ((bytes_eq-Decides w.now name).0 (sym e ∙ yes))),
+  λ begins. e ∙ (bytes_eq-Decides w.now name).1 (same begins.1),
+)
+  where
+    same : Some w.now ≡ Some name → w.now ≡ name
+    same h = cc
+
+-- another count of words
+pub other_count : (words : List (Bor (List ℕ))) (name : List ℕ) (count : ℕ) → (length words ≡ count → ⊥) → Begins (texts words) name count → ⊥
+other_count words name count differ begins = differ (sym (length-map (λ (x : Bor (List ℕ)). x.now) words) ∙ begins.0)
+
+-- three words, by the first and the places of the others
+pub three_words : (words : List (Bor (List ℕ))) (d : Bor (List ℕ)) (name : List ℕ) → Begins (texts words) name 3 →
+    texts words ≡ name ∷ (get_or words 1 d).now ∷ (get_or words 2 d).now ∷ []
+three_words [] d name h = absurd (omega (arith, h.0))
+three_words (a ∷ []) d name h = absurd (omega (arith, h.0))
+three_words (a ∷ b ∷ []) d name h = absurd (omega (arith, h.0))
+three_words (a ∷ b ∷ c ∷ []) d name h = let same : Some a.now ≡ Some name = h.1 in let first : a.now ≡ name = cc in ap (λ (l : List ℕ). l ∷ b.now ∷ c.now ∷ []) first
+three_words (a ∷ b ∷ c ∷ x ∷ more) d name h = absurd (omega (arith, h.0))
+
+pub four_words : (words : List (Bor (List ℕ))) (d : Bor (List ℕ)) (name : List ℕ) → Begins (texts words) name 4 →
+    texts words ≡ name ∷ (get_or words 1 d).now ∷ (get_or words 2 d).now ∷ (get_or words 3 d).now ∷ []
+four_words [] d name h = absurd (omega (arith, h.0))
+four_words (a ∷ []) d name h = absurd (omega (arith, h.0))
+four_words (a ∷ b ∷ []) d name h = absurd (omega (arith, h.0))
+four_words (a ∷ b ∷ c ∷ []) d name h = absurd (omega (arith, h.0))
+four_words (a ∷ b ∷ c ∷ e ∷ []) d name h = let same : Some a.now ≡ Some name = h.1 in let first : a.now ≡ name = cc in ap (λ (l : List ℕ). l ∷ b.now ∷ c.now ∷ e.now ∷ []) first
+four_words (a ∷ b ∷ c ∷ e ∷ x ∷ more) d name h = absurd (omega (arith, h.0))
+
+-- words that begin with no command
+pub no_words : (words : List (List ℕ)) → (Begins words (codes "check") 3 → ⊥) → (Begins words (codes "list") 4 → ⊥) → (Begins words (codes "report") 3 → ⊥) → IsNoCommand words
+no_words words check list report = record {
+  no_check = λ profile capture is. check (ap (λ (l : List (List ℕ)). length l) is, ap (λ (l : List (List ℕ)). slice_get l 0) is);
+  no_list = λ filter is. list (ap (λ (l : List (List ℕ)). length l) is.2, ap (λ (l : List (List ℕ)). slice_get l 0) is.2);
+  no_report = λ profile capture is. report (ap (λ (l : List (List ℕ)). length l) is, ap (λ (l : List (List ℕ)). slice_get l 0) is);
+}
+
+-- ---- what a list comes to, as a run
+
+pub of_list : {H O : Type 0} {S : shelf.Ghosts H} {T : sink.Ghosts O} {words : List (List ℕ)} {profile capture filter : List ℕ} {old new : H} {out out' : O} {answer : ℕ} →
+    IsList words profile capture filter → Lists S T profile capture filter old new out out' answer → Runs S T words old new out out' answer
+of_list {profile = profile} {capture} {filter} is (refused e bad same a) = filter_refused filter e (profile, capture, is) bad same a
+of_list {profile = profile} {capture} {filter} is (lacking same none is9) = no_filter filter (profile, capture, is) same none is9
+of_list {profile = profile} {capture} {filter} is (listed f good r) = shows (Listing f) profile capture (filter, is, good) r

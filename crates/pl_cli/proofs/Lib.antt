@@ -1,4 +1,4 @@
-pub mod Lists
+pub mod Written
 pub mod Texts
 pub mod Steps
 pub mod Known
@@ -12,6 +12,6 @@ pub mod Tops
 pub mod Profiles
 pub mod Judged
 pub mod Commands
-pub mod Checked
+pub mod Shown
 pub mod Headline
 pub mod Statuses
