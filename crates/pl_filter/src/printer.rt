@@ -26,7 +26,8 @@ pub fn print(alloc: Global, f: &Filter) -> Result<String, AllocError>
 
 /// Appends a filter.
 fn push_filter(text: &mut String, f: &Filter) -> Result<(), AllocError>
-    ensures text { OnOk result (string_bytes text.new ≡ string_bytes text.old ++ printed (tree f.now)) }
+    ensures text { OnOk result
+        (string_bytes text.new ≡ string_bytes text.old ++ printed (tree f.now)) }
     ensures fits { OnOk result (NumbersFit (tree f.now)) }
 {
     match f {

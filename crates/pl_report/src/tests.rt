@@ -177,6 +177,16 @@ fn a_summary_has_a_line_for_each_count_and_for_each_broken_rule(rt: HostRuntime)
 }
 
 #[test]
+fn a_summary_of_no_items_has_its_eleven_counts_and_no_rule(rt: HostRuntime) {
+    let tally = Tally::new();
+    let first = summary_line(&tally, 0).expect(&rt, "the first line");
+    assert_eq!(rt; first.as_str(), "items 0\n");
+    let last = summary_line(&tally, 10).expect(&rt, "the last line");
+    assert_eq!(rt; last.as_str(), "most unacknowledged down 0 up 0\n");
+    assert!(rt; summary_line(&tally, 11).is_none());
+}
+
+#[test]
 fn a_verdict_names_its_rule_and_the_packets_that_show_it(rt: HostRuntime) {
     let credit = Verdict {
         rule: Rule::F9,
