@@ -20,7 +20,7 @@ use Rattle.pl_cli.specs.Output.{Check, Listing, Report, View, cut, output, statu
 use Rattle.pl_cli.specs.Promise.{Answers, HasFilter, IsCheck, IsCommand, IsList, IsNoCommand, IsReport, Judges, Opens, ProfileIs, ProfileUnread, Reads, ReadsProfile, Runs, Shows, filter_refused, is_dash, judged, no_command, no_filter, no_memory, profile_read, profile_refused, profile_unread, shows, unread}
 use Rattle.pl_cli.specs.Source.{profile_under}
 use Rattle.pl_cli.specs.Words.{AreThere, CutAt, FilterIsRead, Gives, GivesPart, IsJudged, IsUnrisen, OpensBoth, RunsCleanly, after_profile, nothing_read, whole_text}
-use Rattle.pl_cli.proofs.Commands.{clean_file, not_risen}
+use Rattle.pl_cli.proofs.CommandWords.{clean_file, not_risen}
 use Rattle.pl_cli.proofs.Judged.{cut_nothing, judged_status}
 use Rattle.pl_cli.proofs.Tops.{front_ahead}
 
@@ -134,7 +134,25 @@ same_words h k = (cc, cc)
 same_four : {word a b c a' b' c' : List ℕ} {words : List (List ℕ)} → words ≡ word ∷ a ∷ b ∷ c ∷ [] → words ≡ word ∷ a' ∷ b' ∷ c' ∷ [] → (a' ≡ a) × (b' ≡ b) × (c' ≡ c)
 same_four h k = (cc, cc, cc)
 
-module _ {H O : Type 0} {S : shelf.Ghosts H} {T : sink.Ghosts O} {words : List (List ℕ)} {old new : H} {out out' : O} {answer : ℕ} where
+pub none_by : {words : List (List ℕ)} (v : View) (profile capture : List ℕ) → IsCommand words v profile capture → IsNoCommand words → ⊥
+none_by Check profile capture h none = none.no_check profile capture h
+none_by (Listing f) profile capture h none = none.no_list h.0 (profile, capture, h.1)
+none_by Report profile capture h none = none.no_report profile capture h
+
+pub refused_filter : {words : List (List ℕ)} (v : View) (profile capture filter : List ℕ) (e : FilterError) → IsCommand words v profile capture → HasFilter words filter → IsAnswer filter (Err e) → ⊥
+refused_filter Check profile capture filter e h k bad = check_list h k.2
+refused_filter (Listing f) profile capture filter e h k bad = let same = same_four k.2 h.1 in not_refused h.0 filter f e same.2 h.2 bad
+refused_filter Report profile capture filter e h k bad = list_report k.2 h
+
+pub one_refusal : {words : List (List ℕ)} (filter filter' : List ℕ) (d e : FilterError) → HasFilter words filter → HasFilter words filter' → IsAnswer filter (Err d) → IsAnswer filter' (Err e) → d ≡ e
+one_refusal filter filter' d e has has' h k = let same = same_four has'.2 has.2 in one_error filter filter' d e same.2 h k
+
+lacking_filter : {words : List (List ℕ)} {answer : ℕ} (v : View) (profile capture filter : List ℕ) → IsCommand words v profile capture → HasFilter words filter → answer ≡ 9 → FilterIsRead v answer → ⊥
+lacking_filter Check profile capture filter h k is9 read = check_list h k.2
+lacking_filter (Listing f) profile capture filter h k is9 read = read is9
+lacking_filter Report profile capture filter h k is9 read = list_report k.2 h
+
+module _ {H O : Type 0} {S : shelf.Ghosts H} {T : sink.Ghosts O} {old new : H} {out out' : O} {answer : ℕ} where
   with_names : (v w : View) (profile capture p c : List ℕ) → w ≡ v → p ≡ profile → c ≡ capture →
       Shows S T w p c old new out out' answer → Commanded S T v profile capture old new out out' answer
   with_names v w profile capture p c e f g r =
@@ -142,44 +160,26 @@ module _ {H O : Type 0} {S : shelf.Ghosts H} {T : sink.Ghosts O} {words : List (
       (subst (λ (x : List ℕ). Shows S T w x capture old new out out' answer) f
       (subst (λ (x : List ℕ). Shows S T w p x old new out out' answer) g r)))
 
-  shown_by : (v w : View) (profile capture p c : List ℕ) → IsCommand words v profile capture → IsCommand words w p c →
+  shown_by : (words : List (List ℕ)) (v w : View) (profile capture p c : List ℕ) → IsCommand words v profile capture → IsCommand words w p c →
       Shows S T w p c old new out out' answer → Commanded S T v profile capture old new out out' answer
-  shown_by Check Check profile capture p c h k r = let same = same_words h k in with_names Check Check profile capture p c refl same.0 same.1 r
-  shown_by Check (Listing g) profile capture p c h k r = absurd (check_list h k.1)
-  shown_by Check Report profile capture p c h k r = absurd (check_report h k)
-  shown_by (Listing f) Check profile capture p c h k r = absurd (check_list k h.1)
-  shown_by (Listing f) (Listing g) profile capture p c h k r =
+  shown_by words Check Check profile capture p c h k r = let same = same_words h k in with_names Check Check profile capture p c refl same.0 same.1 r
+  shown_by words Check (Listing g) profile capture p c h k r = absurd (check_list h k.1)
+  shown_by words Check Report profile capture p c h k r = absurd (check_report h k)
+  shown_by words (Listing f) Check profile capture p c h k r = absurd (check_list k h.1)
+  shown_by words (Listing f) (Listing g) profile capture p c h k r =
       let same = same_four h.1 k.1 in
       with_names (Listing f) (Listing g) profile capture p c (ap Listing (one_filter k.0 h.0 g f same.2 k.2 h.2)) same.0 same.1 r
-  shown_by (Listing f) Report profile capture p c h k r = absurd (list_report h.1 k)
-  shown_by Report Check profile capture p c h k r = absurd (check_report k h)
-  shown_by Report (Listing g) profile capture p c h k r = absurd (list_report k.1 h)
-  shown_by Report Report profile capture p c h k r = let same = same_words h k in with_names Report Report profile capture p c refl same.0 same.1 r
+  shown_by words (Listing f) Report profile capture p c h k r = absurd (list_report h.1 k)
+  shown_by words Report Check profile capture p c h k r = absurd (check_report k h)
+  shown_by words Report (Listing g) profile capture p c h k r = absurd (list_report k.1 h)
+  shown_by words Report Report profile capture p c h k r = let same = same_words h k in with_names Report Report profile capture p c refl same.0 same.1 r
 
-  pub none_by : (v : View) (profile capture : List ℕ) → IsCommand words v profile capture → IsNoCommand words → ⊥
-  none_by Check profile capture h none = none.no_check profile capture h
-  none_by (Listing f) profile capture h none = none.no_list h.0 (profile, capture, h.1)
-  none_by Report profile capture h none = none.no_report profile capture h
-
-  pub refused_filter : (v : View) (profile capture filter : List ℕ) (e : FilterError) → IsCommand words v profile capture → HasFilter words filter → IsAnswer filter (Err e) → ⊥
-  refused_filter Check profile capture filter e h k bad = check_list h k.2
-  refused_filter (Listing f) profile capture filter e h k bad = let same = same_four k.2 h.1 in not_refused h.0 filter f e same.2 h.2 bad
-  refused_filter Report profile capture filter e h k bad = list_report k.2 h
-
-  pub one_refusal : (filter filter' : List ℕ) (d e : FilterError) → HasFilter words filter → HasFilter words filter' → IsAnswer filter (Err d) → IsAnswer filter' (Err e) → d ≡ e
-  one_refusal filter filter' d e has has' h k = let same = same_four has'.2 has.2 in one_error filter filter' d e same.2 h k
-
-  lacking_filter : (v : View) (profile capture filter : List ℕ) → IsCommand words v profile capture → HasFilter words filter → answer ≡ 9 → FilterIsRead v answer → ⊥
-  lacking_filter Check profile capture filter h k is9 read = check_list h k.2
-  lacking_filter (Listing f) profile capture filter h k is9 read = read is9
-  lacking_filter Report profile capture filter h k is9 read = list_report k.2 h
-
-  pub of_command : (v : View) (profile capture : List ℕ) → IsCommand words v profile capture → Runs S T words old new out out' answer →
+  pub of_command : {words : List (List ℕ)} (v : View) (profile capture : List ℕ) → IsCommand words v profile capture → Runs S T words old new out out' answer →
       Commanded S T v profile capture old new out out' answer
   of_command v profile capture is (no_command none same a) = absurd (none_by v profile capture is none)
   of_command v profile capture is (filter_refused filter e has bad same a) = absurd (refused_filter v profile capture filter e is has bad)
   of_command v profile capture is (no_filter filter has same none is9) = lacks same none is9 (lacking_filter v profile capture filter is has is9)
-  of_command v profile capture is (shows w p c is' r) = shown_by v w profile capture p c is is' r
+  of_command v profile capture is (shows w p c is' r) = shown_by _ v w profile capture p c is is' r
 
 -- What came of a profile and a capture that are told.
 pub data Came {H O : Type 0} (S : shelf.Ghosts H) (T : sink.Ghosts O) (v : View) (p : Profile) (profile capture bytes : List ℕ)
@@ -217,7 +217,7 @@ pub came : {H O : Type 0} {S : shelf.Ghosts H} {T : sink.Ghosts O} {v : View} {p
 came p b (shown (profile_unread u a)) told source file = no_profile u a
 came p b (shown (profile_refused e ne is r a)) told source file = absurd (ok_err _ p e source (some_text is told))
 came p b (shown (no_memory r same is9)) told source file = lacking same is9
-came p b (lacks same none is9 no) told source file = lacking none is9
+came p b (lacks same none is9 nf) told source file = lacking none is9
 came {S = S} {T} {v} {profile} {capture} {old} {new} {out} {out'} {answer} p b (shown (profile_read q between is r j)) told source file =
     subst (λ (x : Profile). Came S T v x profile capture b old new out out' answer) (same_ok _ q p (some_text is told) source) (by j)
   where
@@ -319,7 +319,7 @@ module _ {H O : Type 0} {S : shelf.Ghosts H} {T : sink.Ghosts O} {v : View} {pro
       subst (λ (x : ProfileError). Gives (profile_error_text (number_of x)) 3 (T.written out) (T.written out') answer) (same_err _ d e (some_text is told) source) (gives a n8)
   refused_by e (shown (no_memory r same is9)) told source n7 n8 n9 = absurd (n9 is9)
   refused_by e (shown (profile_read p between is r j)) told source n7 n8 n9 = absurd (ok_err _ p e (some_text is told) source)
-  refused_by e (lacks same none is9 no) told source n7 n8 n9 = absurd (n9 is9)
+  refused_by e (lacks same none is9 nf) told source n7 n8 n9 = absurd (n9 is9)
 
   pub refused_cut_by : (e : ProfileError) → Commanded S T v profile capture old new out out' answer → S.told old ≡ true → profile_under (S.file old) profile ≡ Some (Err e) →
       answer ≡ 7 → ProfileUnread S profile old new × (T.written out' ≡ plus (T.written out) read_fault_text)
@@ -327,7 +327,7 @@ module _ {H O : Type 0} {S : shelf.Ghosts H} {T : sink.Ghosts O} {v : View} {pro
   refused_cut_by e (shown (profile_refused d ne is r a)) told source is7 = let k = a.answered (λ h. omega arith) in absurd (omega (arith, k))
   refused_cut_by e (shown (no_memory r same is9)) told source is7 = absurd (omega arith)
   refused_cut_by e (shown (profile_read p between is r j)) told source is7 = absurd (ok_err _ p e (some_text is told) source)
-  refused_cut_by e (lacks same none is9 no) told source is7 = absurd (omega arith)
+  refused_cut_by e (lacks same none is9 nf) told source is7 = absurd (omega arith)
 
   pub refused_part_by : (e : ProfileError) → Commanded S T v profile capture old new out out' answer → S.told old ≡ true → profile_under (S.file old) profile ≡ Some (Err e) →
       answer ≡ 8 → GivesPart T (profile_error_text (number_of e)) out out' ⊎ (ProfileUnread S profile old new × GivesPart T read_fault_text out out')
@@ -336,7 +336,7 @@ module _ {H O : Type 0} {S : shelf.Ghosts H} {T : sink.Ghosts O} {v : View} {pro
       inl (subst (λ (x : ProfileError). GivesPart T (profile_error_text (number_of x)) out out') (same_err _ d e (some_text is told) source) (gives_part a is8))
   refused_part_by e (shown (no_memory r same is9)) told source is8 = absurd (omega arith)
   refused_part_by e (shown (profile_read p between is r j)) told source is8 = absurd (ok_err _ p e (some_text is told) source)
-  refused_part_by e (lacks same none is9 no) told source is8 = absurd (omega arith)
+  refused_part_by e (lacks same none is9 nf) told source is8 = absurd (omega arith)
 
   pub no_profile_by : Commanded S T v profile capture old new out out' answer → S.told old ≡ true → profile_under (S.file old) profile ≡ None →
       FilterIsRead v answer → ProfileUnread S profile old new × Answers T read_fault_text 7 out out' answer
@@ -344,7 +344,7 @@ module _ {H O : Type 0} {S : shelf.Ghosts H} {T : sink.Ghosts O} {v : View} {pro
   no_profile_by (shown (profile_refused e ne is r a)) told source read = absurd (some_none _ (some_text is told) source)
   no_profile_by (shown (no_memory r same is9)) told source read = absurd (is_none _ (read_there r told) source)
   no_profile_by (shown (profile_read p between is r j)) told source read = absurd (some_none _ (some_text is told) source)
-  no_profile_by (lacks same none is9 no) told source read = absurd (no read)
+  no_profile_by (lacks same none is9 nf) told source read = absurd (nf read)
 
   pub no_capture_by : (p : Profile) → Commanded S T v profile capture old new out out' answer → S.told old ≡ true → profile_under (S.file old) profile ≡ Some (Ok p) →
       S.file old capture ≡ None → answer ≢ 9 →
@@ -355,7 +355,7 @@ module _ {H O : Type 0} {S : shelf.Ghosts H} {T : sink.Ghosts O} {v : View} {pro
   no_capture_by p (shown (profile_read q between is r j)) told source none n9 =
       inr (subst (λ (x : Profile). Answers T (nothing_read v x) 7 out out' answer) (same_ok _ q p (some_text is told) source)
       (absent q j (r.still_told ∙ told) (r.files capture ∙ none)))
-  no_capture_by p (lacks same nothing is9 no) told source none n9 = absurd (n9 is9)
+  no_capture_by p (lacks same nothing is9 nf) told source none n9 = absurd (n9 is9)
 
   -- ---- over a sure shelf
 
@@ -370,7 +370,7 @@ module _ {H O : Type 0} {S : shelf.Ghosts H} {T : sink.Ghosts O} {v : View} {pro
   shelf_sure_by (shown (profile_read p between is r (unread read c a))) told sure there =
       let here : IsSome (S.file old capture) = subst (λ (o : Option (Result Profile ProfileError)). AreThere o (S.file old capture)) (some_text is told) there in
       absurd (c.not_sure (r.still_sure sure) (subst IsSome (sym (r.files capture)) here))
-  shelf_sure_by (lacks same none is9 no) told sure there = ap S.faults same
+  shelf_sure_by (lacks same none is9 nf) told sure there = ap S.faults same
 
   pub sink_room_by : Commanded S T v profile capture old new out out' answer → S.told old ≡ true → S.sure old ≡ true →
       HasRoom (T.room out) (length (whole_text v (profile_under (S.file old) profile) (S.file old capture))) → T.faults out' ≡ T.faults out
@@ -379,7 +379,7 @@ module _ {H O : Type 0} {S : shelf.Ghosts H} {T : sink.Ghosts O} {v : View} {pro
   sink_room_by (shown (profile_refused e ne is r a)) told sure room =
       kept_if_room a (subst (λ (o : Option (Result Profile ProfileError)). HasRoom (T.room out) (length (whole_text v o (S.file old capture)))) (some_text is told) room)
   sink_room_by (shown (no_memory r same is9)) told sure room = ap T.faults same
-  sink_room_by (lacks same none is9 no) told sure room = ap T.faults none
+  sink_room_by (lacks same none is9 nf) told sure room = ap T.faults none
   sink_room_by (shown (profile_read p between is r j)) told sure room = by j
     where
       room-ok : HasRoom (T.room out) (length (whole_text v (Some (Ok p)) (S.file old capture)))

@@ -11,7 +11,7 @@ pub mod Ends
 pub mod Tops
 pub mod Profiles
 pub mod Judged
-pub mod Commands
+pub mod CommandWords
 pub mod Shown
 pub mod Headline
 pub mod Statuses

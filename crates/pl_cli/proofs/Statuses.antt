@@ -210,7 +210,7 @@ module _ {H O : Type 0} {S : shelf.Ghosts H} {T : sink.Ghosts O} {words : List (
 
   pub filter_only_by : Runs S T words old new out out' answer → answer ≡ 12 → (e : FilterError) × IsRefused words e
   filter_only_by (no_command none same a) is12 = let k = a.answered (λ h. omega arith) in absurd (omega (arith, k))
-  filter_only_by (filter_refused filter e has bad same a) is12 = (e, filter, has, bad)
+  filter_only_by (filter_refused filter e has bad same a) is12 = (e, (filter, has, bad))
   filter_only_by (no_filter filter has same none is9) is12 = absurd (omega arith)
   filter_only_by (shows v profile capture is (profile_unread u a)) is12 = let k = a.answered (λ h. omega arith) in absurd (omega (arith, k))
   filter_only_by (shows v profile capture is (profile_refused e ne p r a)) is12 = let k = a.answered (λ h. omega arith) in absurd (omega (arith, k))

@@ -1,5 +1,5 @@
 -- Texts that are written one behind another.
-use Rattle.std.proofs.Common.{◌≡◌, ◌++◌, ◌+◌, ◌≤◌, ◌<◌, List, ℕ, zero, suc, [], ◌∷◌, refl, ap, ◌∙◌, sym, subst, length, take, drop, append_assoc, append-nil, length-append, arith, Option, Some, None, slice_get}
+use Rattle.std.proofs.Common.{◌≡◌, ◌++◌, ◌+◌, ◌≤◌, ◌<◌, List, ℕ, zero, suc, [], ◌∷◌, refl, ap, ◌∙◌, sym, subst, length, take, drop, append_assoc, append-nil, length-append, arith, Option, Some, None, Result, Ok, Err, OnErr, slice_get}
 use Rattle.std.specs.List.{concat, filter}
 use Rattle.std.proofs.lemmas.List.Sums.{count_by-le-length, length-filter}
 use Rattle.std.proofs.lemmas.List.{length-map, take_all}
@@ -88,7 +88,24 @@ unfolding summary_lines every_rule
 summary_few t = omega (
   arith,
   length-append (count_lines t) (rule_lines t),
-  length-map (rule_text t) (filter (is_broken t) every_rule),
+  length-map (filter (is_broken t) every_rule) (rule_text t),
   length-filter (is_broken t) every_rule,
   count_by-le-length (is_broken t) every_rule,
 )
+
+-- what follows of a fault's clause
+pub on_err : {X E P Q : Type 0} (r : Result X E) → (P → Q) → OnErr r P → OnErr r Q
+on_err (Ok x) f h = h
+on_err (Err e) f h = f h
+
+-- room for all lines is room for the next one
+pub line_room : (room room1 : Option ℕ) (ls : List (List ℕ)) (k : ℕ) (line : List ℕ) → slice_get ls k ≡ Some line →
+    ((n : ℕ) → HasRoom room (length (concat (take k ls)) + n) → HasRoom room1 n) → HasRoom room (length (concat ls)) → HasRoom room1 (length line)
+line_room room room1 ls k line h left all =
+    left (length line) (less_room room (length (concat (take k ls)) + length line) (length (concat ls))
+    (omega (
+      arith,
+      ap (λ (l : List ℕ). length l) (line_at ls k line h),
+      length-append (concat (take k ls)) (line ++ concat (drop (suc k) ls)),
+      length-append line (concat (drop (suc k) ls)),
+    )) all)

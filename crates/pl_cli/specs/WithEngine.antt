@@ -19,7 +19,6 @@ pub record ShowsWith {H O : Type 0} (S : shelf.Ghosts H) (T : sink.Ghosts O) (vi
   -- What was read, written, answered and counted, whatever it came to.
   pub judges : Judges S T view kept.profile capture old new out out' answer
   pub status : (answer ≤ BROKEN) ⊎ ((MALFORMED ≤ answer) × (answer ≤ WRITE_FAULT))
-
   -- Where nothing failed, the lines are the output for the whole file, and so is the status. The
   -- engine then stands for the items before the ending.
   pub exact : S.told old ≡ true → (b : List ℕ) → S.file old capture ≡ Some b →
@@ -28,7 +27,6 @@ pub record ShowsWith {H O : Type 0} (S : shelf.Ghosts H) (T : sink.Ghosts O) (vi
       × (answer ≡ status_of kept.profile b)
       × engine.StandsFor kept'
       (history_after [] (judged_items kept.profile (reading (take limit b))))
-
   -- Where reading failed, they are those of what was read, in which nothing is refused.
   pub cut_short : S.told old ≡ true → (b : List ℕ) →
       S.file old capture ≡ Some b → answer ≡ READ_FAULT →
@@ -36,7 +34,6 @@ pub record ShowsWith {H O : Type 0} (S : shelf.Ghosts H) (T : sink.Ghosts O) (vi
       × (cause kept.profile (reading read) Fault ≡ AtFault)
       × (T.written out' ≡ plus (T.written out) (cut view kept.profile read))
       × engine.StandsFor kept' (history_after [] (reading read).items)
-
   -- Where the sink failed, the engine stands for the items up to the one within whose lines it
   -- failed, it included; or for all that are judged of what was read, where it failed within the
   -- last lines.
@@ -47,6 +44,5 @@ pub record ShowsWith {H O : Type 0} (S : shelf.Ghosts H) (T : sink.Ghosts O) (vi
       (T.written out) (T.written out')
       ⊎ LostAtEnd view kept.profile (reading (take limit read)).items kept'
       (T.written out) (T.written out'))
-
   -- Where the capture couldn't be opened, the engine is as it was.
   pub unopened : S.is_open new ≡ false → kept' ≡ kept

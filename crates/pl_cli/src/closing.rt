@@ -86,12 +86,7 @@ fn write_counts<O: Sink>(tally: &Tally, out: &mut O) -> Result<(), Failed>
 }
 
 /// Writes the last line, and answers the status.
-fn close_behind<O: Sink>(
-    view: &View<'_>,
-    judging: &mut Judging,
-    ended: Ended,
-    out: &mut O,
-) -> u8
+fn close_behind<O: Sink>(view: &View<'_>, judging: &mut Judging, ended: Ended, out: &mut O) -> u8
     ensures closed { Answers O.Sink (last_text (meant view.now) judging.old.items judging.old.listed
         judging.old.verdicts (last_cause ended judging.old.reader))
         (cause_status judging.old.verdicts (last_cause ended judging.old.reader))

@@ -156,12 +156,7 @@ pub fn run<H: Shelf, O: Sink>(alloc: Global, words: &[&str], shelf: &mut H, out:
 }
 
 /// Does what the words say.
-fn run_words<H: Shelf, O: Sink>(
-    alloc: Global,
-    words: &[&str],
-    shelf: &mut H,
-    out: &mut O,
-) -> u8
+fn run_words<H: Shelf, O: Sink>(alloc: Global, words: &[&str], shelf: &mut H, out: &mut O) -> u8
     ensures runs { Runs H.Shelf O.Sink (texts words.now)
         shelf.old shelf.new out.old out.new result }
 {

@@ -3,7 +3,7 @@ ghost use Rattle.std.specs.Prelude.{◌≡◌, ◌≢◌};
 ghost use Rattle.pl_cli.specs.Output.{Check, Report};
 ghost use Rattle.pl_cli.specs.Progress.{meant};
 ghost use Rattle.pl_cli.specs.Promise.{Judges, Lists, Shows};
-ghost use Rattle.pl_cli.specs.Source.{RefusesProfile};
+ghost use Rattle.pl_cli.specs.Source.{RefusesFilter, RefusesProfile};
 
 use crate::closing::write_last;
 use crate::profile::{NoProfile, profile_named};
@@ -57,8 +57,7 @@ pub fn list<H: Shelf, O: Sink>(
 {
     match parse(alloc, filter) {
         Ok(filter) => show(alloc, &View::List(&filter), profile, capture, shelf, out),
-        Err(FilterError::Memory) => NO_MEMORY,
-        Err(error) => write_last(out, filter_error_line(&error).as_str(), FILTER),
+        Err(error) => refuse_filter(&error, out),
     }
 }
 
@@ -114,6 +113,20 @@ fn show_under<H: Shelf, O: Sink>(
     match Engine::open(alloc, profile) {
         Ok(mut engine) => show_with(view, &mut engine, capture, shelf, out),
         Err(_) => NO_MEMORY,
+    }
+}
+
+/// Writes the line of a filter that is refused, and answers its status.
+fn refuse_filter<O: Sink>(error: &FilterError, out: &mut O) -> u8
+    ensures refused { RefusesFilter O.Sink error.now out.old out.new result }
+{
+    match error {
+        FilterError::Memory => NO_MEMORY,
+        FilterError::Syntax(_) | FilterError::TooDeep(_) => write_last(
+            out,
+            filter_error_line(error).as_str(),
+            FILTER,
+        ),
     }
 }
 

@@ -1,5 +1,5 @@
 -- The words of a command, and what its status says.
-use Rattle.std.proofs.Common.{◌≡◌, ◌≤◌, ◌<◌, ◌==◌, ◌⊎◌, inl, inr, List, ℕ, Bool, true, false, if◌then◌else◌, [], ◌∷◌, refl, ap, ◌∙◌, sym, length, take, map, get_or, Bor, arith, Option, Some, None}
+use Rattle.std.proofs.Common.{◌≡◌, ◌≢◌, ◌≤◌, ◌<◌, ◌==◌, ◌⊎◌, inl, inr, List, ℕ, Bool, true, false, if◌then◌else◌, [], ◌∷◌, refl, ap, ◌∙◌, sym, length, take, map, get_or, Bor, arith, Option, Some, None, Result, Err}
 use Rattle.std.specs.Prelude.{codes, bytes_eq, slice_get}
 use Rattle.std.proofs.lemmas.Slice.Eq.{bytes_eq-Decides}
 use Rattle.std.proofs.lemmas.Bool.{cases_lt}
@@ -15,9 +15,14 @@ use Rattle.pl_io.specs.declared.sink.Sink as sink
 use Rattle.pl_io.specs.Faults.{Rose}
 use Rattle.pl_profile.specs.declared.profile.Profile.{Profile}
 use Rattle.pl_engine.specs.Verdicts.{refusal, verdicts_after}
+use Rattle.pl_filter.specs.Answers.{IsAnswer}
+use Rattle.pl_filter.specs.Trees.{Tree}
+use Rattle.pl_filter.specs.declared.error.FilterError.{FilterError}
+use Rattle.pl_filter.specs.declared.error.FilterError.TheVariants as error
 use Rattle.pl_engine.specs.Judged.{judged_verdicts}
 use Rattle.pl_cli.specs.Output.{Cause, AtEnd, AtRefusal, AtLimit, AtFault, Listing, How, Whole, TooLong, Fault, cause, cause_of, cause_of_ending, cause_status, how_of, limit, status, status_of, stop_status}
 use Rattle.pl_cli.specs.Promise.{Begins, IsList, IsNoCommand, Lists, Runs, filter_refused, lacking, listed, no_filter, refused, shows, texts}
+use Rattle.pl_cli.specs.Source.{RefusesFilter}
 use Rattle.pl_cli.specs.Words.{IsUnrisen, RunsCleanly}
 use Rattle.pl_engine.proofs.Lists.{accepted_all}
 
@@ -95,7 +100,7 @@ pub first_is : (words : List (Bor (List ℕ))) (d : Bor (List ℕ)) (name : List
     r ≡ bytes_eq (get_or words 0 d).now name → (r ≡ true → Begins (texts words) name count) × (Begins (texts words) name count → r ≡ true)
 first_is [] d name count r some len e = absurd (omega arith)
 first_is (w ∷ words) d name count r some len e = (
-  λ yes. (length-map (λ (x : Bor (List ℕ)). x.now) (w ∷ words) ∙ len, ap Some ((bytes_eq-Decides w.now name).0 (sym e ∙ yes))),
+  λ yes. (length-map (w ∷ words) (λ (x : Bor (List ℕ)). x.now) ∙ len, ap Some ((bytes_eq-Decides w.now name).0 (sym e ∙ yes))),
   λ begins. e ∙ (bytes_eq-Decides w.now name).1 (same begins.1),
 )
   where
@@ -104,7 +109,7 @@ first_is (w ∷ words) d name count r some len e = (
 
 -- another count of words
 pub other_count : (words : List (Bor (List ℕ))) (name : List ℕ) (count : ℕ) → (length words ≡ count → ⊥) → Begins (texts words) name count → ⊥
-other_count words name count differ begins = differ (sym (length-map (λ (x : Bor (List ℕ)). x.now) words) ∙ begins.0)
+other_count words name count differ begins = differ (sym (length-map words (λ (x : Bor (List ℕ)). x.now)) ∙ begins.0)
 
 -- three words, by the first and the places of the others
 pub three_words : (words : List (Bor (List ℕ))) (d : Bor (List ℕ)) (name : List ℕ) → Begins (texts words) name 3 →
@@ -139,3 +144,11 @@ pub of_list : {H O : Type 0} {S : shelf.Ghosts H} {T : sink.Ghosts O} {words : L
 of_list {profile = profile} {capture} {filter} is (refused e bad same a) = filter_refused filter e (profile, capture, is) bad same a
 of_list {profile = profile} {capture} {filter} is (lacking same none is9) = no_filter filter (profile, capture, is) same none is9
 of_list {profile = profile} {capture} {filter} is (listed f good r) = shows (Listing f) profile capture (filter, is, good) r
+
+-- a filter that is refused
+pub refused_list : {H O : Type 0} {S : shelf.Ghosts H} {T : sink.Ghosts O} {profile capture filter : List ℕ} {old : H} {out out' : O} {answer : ℕ} (e : FilterError) →
+    (let r : Result Tree FilterError = Err e in r ≢ Err error.Memory → IsAnswer filter r) → RefusesFilter T e out out' answer →
+    Lists S T profile capture filter old old out out' answer
+refused_list (error.Syntax at) right h = refused (error.Syntax at) (right (λ k. cc)) refl h
+refused_list (error.TooDeep at) right h = refused (error.TooDeep at) (right (λ k. cc)) refl h
+refused_list error.Memory right h = lacking refl h.0 h.1
