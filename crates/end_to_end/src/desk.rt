@@ -21,7 +21,7 @@ impl Outcome {
     }
 
     /// Whether these lines were written, which are parted by `;`, and nothing else.
-    fn has_lines(&self, lines: &str) -> bool {
+    pub fn has_lines(&self, lines: &str) -> bool {
         let mut rest = self.output.as_slice();
         for line in lines.split(';') {
             match rest.strip_prefix(line.trim().as_bytes()) {

@@ -27,3 +27,5 @@ mod order;
 mod profile;
 #[cfg(test)]
 mod sequence;
+#[cfg(test)]
+mod views;

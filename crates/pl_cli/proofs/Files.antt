@@ -8,32 +8,32 @@ use Rattle.pl_engine.specs.declared.engine.Engine.{Engine}
 use Rattle.pl_cli.specs.declared.judging.Judging.{Judging}
 use Rattle.pl_cli.specs.declared.judging.Ended.{Ended}
 use Rattle.pl_cli.specs.declared.judging.Ended.TheVariants as ended
-use Rattle.pl_cli.specs.Output.{limit}
+use Rattle.pl_cli.specs.Output.{View, limit}
 use Rattle.pl_cli.specs.Promise.{IsFront}
-use Rattle.pl_cli.specs.Progress.{Asked, CutIn, EndsAs, LooksBehind, Reads, ReadsCut, RefusedIn, SoFar, Taken, TakenCut, Tells}
+use Rattle.pl_cli.specs.Progress.{Asked, CutIn, EndsAs, LooksBehind, ReadTo, ReadUntilCut, RefusedIn, SoFar, Taken, TakenCut, Tells}
 
 -- so many bytes were read and judged
-pub record Far (p : Profile) (j : Judging) (k : Engine) (w w1 : Tells) (rest rest' : Option (List ℕ)) (taken : ℕ) : Type 0 where
+pub record Far (v : View) (p : Profile) (j : Judging) (k : Engine) (w w1 : Tells) (rest rest' : Option (List ℕ)) (taken : ℕ) : Type 0 where
   pub read : List ℕ
   pub size : length read ≡ taken
   pub rest_is : rest ≡ ahead read rest'
-  pub so_far : SoFar p read j k w w1
+  pub so_far : SoFar v p read j k w w1
 
 pub ahead-nil : (rest : Option (List ℕ)) → ahead [] rest ≡ rest
 ahead-nil None = refl
 ahead-nil (Some bytes) = refl
 
-pub far_start : {p : Profile} {j : Judging} {k : Engine} {w w1 : Tells} (rest : Option (List ℕ)) →
-    SoFar p [] j k w w1 → Far p j k w w1 rest rest 0
+pub far_start : {v : View} {p : Profile} {j : Judging} {k : Engine} {w w1 : Tells} (rest : Option (List ℕ)) →
+    SoFar v p [] j k w w1 → Far v p j k w w1 rest rest 0
 far_start rest f = record { read = []; size = refl; rest_is = sym (ahead-nil rest); so_far = f }
 
 -- the rest before a piece, and behind it
 rest_on : (rest rest1 rest2 : Option (List ℕ)) (read piece : List ℕ) → rest ≡ ahead read rest1 → rest1 ≡ ahead piece rest2 → rest ≡ ahead (read ++ piece) rest2
 rest_on rest rest1 rest2 read piece h k = h ∙ ap (λ (o : Option (List ℕ)). ahead read o) k ∙ ahead-ahead rest2 read piece
 
-pub far_on : {p : Profile} {j j' : Judging} {k k' : Engine} {w w1 w2 : Tells} {rest rest1 rest2 : Option (List ℕ)} {taken : ℕ} (piece : List ℕ) (n : ℕ) →
-    (far : Far p j k w w1 rest rest1 taken) → rest1 ≡ ahead piece rest2 → length piece ≡ n →
-    (SoFar p far.read j k w w1 → SoFar p (far.read ++ piece) j' k' w w2) → Far p j' k' w w2 rest rest2 (taken + n)
+pub far_on : {v : View} {p : Profile} {j j' : Judging} {k k' : Engine} {w w1 w2 : Tells} {rest rest1 rest2 : Option (List ℕ)} {taken : ℕ} (piece : List ℕ) (n : ℕ) →
+    (far : Far v p j k w w1 rest rest1 taken) → rest1 ≡ ahead piece rest2 → length piece ≡ n →
+    (SoFar v p far.read j k w w1 → SoFar v p (far.read ++ piece) j' k' w w2) → Far v p j' k' w w2 rest rest2 (taken + n)
 far_on {rest = rest} {rest1} {rest2} piece n far h size next = record {
   read = far.read ++ piece;
   size = omega (arith, length-append far.read piece, far.size, size);
@@ -41,9 +41,9 @@ far_on {rest = rest} {rest1} {rest2} piece n far h size next = record {
   so_far = next far.so_far;
 }
 
-pub far_refused : {p : Profile} {j j' : Judging} {k k' : Engine} {w w1 w2 : Tells} {rest rest1 rest2 : Option (List ℕ)} {taken : ℕ} (piece : List ℕ) (s : Stop) →
-    (far : Far p j k w w1 rest rest1 taken) → rest1 ≡ ahead piece rest2 → taken + length piece ≤ limit →
-    (SoFar p far.read j k w w1 → RefusedIn p (far.read ++ piece) s k' w w2) → Reads p (ended.Refused s) j' k' w w2 rest rest2
+pub far_refused : {v : View} {p : Profile} {j j' : Judging} {k k' : Engine} {w w1 w2 : Tells} {rest rest1 rest2 : Option (List ℕ)} {taken : ℕ} (piece : List ℕ) (s : Stop) →
+    (far : Far v p j k w w1 rest rest1 taken) → rest1 ≡ ahead piece rest2 → taken + length piece ≤ limit →
+    (SoFar v p far.read j k w w1 → RefusedIn v p (far.read ++ piece) s k' w w2) → ReadTo v p (ended.Refused s) j' k' w w2 rest rest2
 far_refused {rest = rest} {rest1} {rest2} piece s far h size next = record {
   read = far.read ++ piece;
   extra = [];
@@ -52,9 +52,9 @@ far_refused {rest = rest} {rest1} {rest2} piece s far h size next = record {
   ends = (refl, next far.so_far);
 }
 
-pub far_cut : {p : Profile} {j : Judging} {k k' : Engine} {w w1 w2 : Tells} {rest rest1 rest2 : Option (List ℕ)} {taken : ℕ} (piece : List ℕ) →
-    (far : Far p j k w w1 rest rest1 taken) → rest1 ≡ ahead piece rest2 → taken + length piece ≤ limit →
-    (SoFar p far.read j k w w1 → CutIn p (far.read ++ piece) k' w w2) → ReadsCut p k' w w2 rest rest2
+pub far_cut : {v : View} {p : Profile} {j : Judging} {k k' : Engine} {w w1 w2 : Tells} {rest rest1 rest2 : Option (List ℕ)} {taken : ℕ} (piece : List ℕ) →
+    (far : Far v p j k w w1 rest rest1 taken) → rest1 ≡ ahead piece rest2 → taken + length piece ≤ limit →
+    (SoFar v p far.read j k w w1 → CutIn v p (far.read ++ piece) k' w w2) → ReadUntilCut v p k' w w2 rest rest2
 far_cut {rest = rest} {rest1} {rest2} piece far h size next = record {
   read = far.read ++ piece;
   size = omega (arith, length-append far.read piece, far.size, size);
@@ -63,9 +63,9 @@ far_cut {rest = rest} {rest1} {rest2} piece far h size next = record {
 }
 
 -- the end, with these bytes seen past those that are judged
-pub far_ends : {p : Profile} {j : Judging} {k : Engine} {w w1 : Tells} {rest rest1 rest2 : Option (List ℕ)} {taken : ℕ} (e : Ended) (extra : List ℕ) →
-    (far : Far p j k w w1 rest rest1 taken) → rest1 ≡ ahead extra rest2 → taken ≤ limit →
-    ((read : List ℕ) → length read ≡ taken → SoFar p read j k w w1 → EndsAs p e read extra rest2 j k w w1) → Reads p e j k w w1 rest rest2
+pub far_ends : {v : View} {p : Profile} {j : Judging} {k : Engine} {w w1 : Tells} {rest rest1 rest2 : Option (List ℕ)} {taken : ℕ} (e : Ended) (extra : List ℕ) →
+    (far : Far v p j k w w1 rest rest1 taken) → rest1 ≡ ahead extra rest2 → taken ≤ limit →
+    ((read : List ℕ) → length read ≡ taken → SoFar v p read j k w w1 → EndsAs v p e read extra rest2 j k w w1) → ReadTo v p e j k w w1 rest rest2
 far_ends {rest = rest} {rest1} {rest2} e extra far h size ends = record {
   read = far.read;
   extra = extra;
@@ -81,8 +81,8 @@ pub end_rest : (rest rest1 : Option (List ℕ)) → rest ≡ ahead [] rest1 → 
 end_rest rest rest1 h at_end = subst AtEnd (h ∙ ahead-nil rest1) at_end
 
 -- a look behind the most bytes that are judged
-pub behind_ends : {p : Profile} {j : Judging} {k : Engine} {w w1 : Tells} (e : Ended) (extra : List ℕ) (rest : Option (List ℕ)) → LooksBehind e extra rest →
-    (read : List ℕ) → length read ≡ limit → SoFar p read j k w w1 → EndsAs p e read extra rest j k w w1
+pub behind_ends : {v : View} {p : Profile} {j : Judging} {k : Engine} {w w1 : Tells} (e : Ended) (extra : List ℕ) (rest : Option (List ℕ)) → LooksBehind e extra rest →
+    (read : List ℕ) → length read ≡ limit → SoFar v p read j k w w1 → EndsAs v p e read extra rest j k w w1
 behind_ends ended.Whole extra rest h read size f = (h.0, h.1, f)
 behind_ends ended.Fault extra rest h read size f = (h, f)
 behind_ends ended.TooLong extra rest h read size f = (size, h, f)
@@ -97,8 +97,8 @@ front_of read file rest None w h = absurd (never (subst IsSome h w.0))
 front_of read file rest (Some left) w h = (left, sym w.1 ∙ h, refl)
 
 -- from the opening on
-pub taken_reads : {p : Profile} {e : Ended} {j : Judging} {k : Engine} {w w1 : Tells} {rest : Option (List ℕ)} (at : Asked) →
-    (at.told ≡ true → IsSome rest × (rest ≡ at.file)) → at.opened ≡ true → Reads p e j k w w1 rest at.rest → Taken p e j k w w1 at
+pub taken_reads : {v : View} {p : Profile} {e : Ended} {j : Judging} {k : Engine} {w w1 : Tells} {rest : Option (List ℕ)} (at : Asked) →
+    (at.told ≡ true → IsSome rest × (rest ≡ at.file)) → at.opened ≡ true → ReadTo v p e j k w w1 rest at.rest → Taken v p e j k w w1 at
 taken_reads {rest = rest} at whole is_open f = record {
   read = f.read;
   extra = f.extra;
@@ -111,14 +111,14 @@ taken_reads {rest = rest} at whole is_open f = record {
     never : false ≡ true → ⊥
     never h = cc
 
-pub taken_cut : {p : Profile} {k : Engine} {w w1 : Tells} {rest : Option (List ℕ)} (at : Asked) →
-    (at.told ≡ true → IsSome rest × (rest ≡ at.file)) → ReadsCut p k w w1 rest at.rest → TakenCut p k w w1 at
+pub taken_cut : {v : View} {p : Profile} {k : Engine} {w w1 : Tells} {rest : Option (List ℕ)} (at : Asked) →
+    (at.told ≡ true → IsSome rest × (rest ≡ at.file)) → ReadUntilCut v p k w w1 rest at.rest → TakenCut v p k w w1 at
 taken_cut {rest = rest} at whole f =
     record { read = f.read; size = f.size; from_file = λ t. front_of f.read at.file rest at.rest (whole t) f.rest_is; cut = f.cut }
 
 -- a file that couldn't be opened
-pub taken_nothing : {p : Profile} {j : Judging} {k : Engine} {w w1 : Tells} (at : Asked) →
-    SoFar p [] j k w w1 → at.opened ≡ false → Taken p ended.Fault j k w w1 at
+pub taken_nothing : {v : View} {p : Profile} {j : Judging} {k : Engine} {w w1 : Tells} (at : Asked) →
+    SoFar v p [] j k w w1 → at.opened ≡ false → Taken v p ended.Fault j k w w1 at
 taken_nothing at f closed = record {
   read = [];
   extra = [];

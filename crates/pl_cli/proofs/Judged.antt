@@ -2,6 +2,7 @@
 use Rattle.std.proofs.Common.{◌≡◌, ◌≢◌, ◌++◌, ◌+◌, ◌≤◌, ◌==◌, ◌⊎◌, inl, inr, if◌then◌else◌, List, ℕ, Bool, true, false, [], ◌∷◌, refl, ap, ◌∙◌, sym, subst, length, take, append-nil, length-append, arith, Option, Some, None, IsSome}
 use Rattle.std.proofs.lemmas.Bool.{cases_eq}
 use Rattle.pl_base.specs.declared.stop.Stop.{Stop}
+use Rattle.pl_base.specs.declared.tally.Tally.{Tally}
 use Rattle.pl_base.specs.declared.stop.Stop.TheVariants.{Malformed, Unsupported, Outstanding, Unacknowledged, Memory}
 use Rattle.pl_io.specs.declared.shelf.Shelf as shelf
 use Rattle.pl_io.specs.declared.sink.Sink as sink
@@ -16,26 +17,26 @@ use Rattle.pl_engine.specs.declared.refused.Refused.{Refused}
 use Rattle.pl_engine.specs.Events.{number_after}
 use Rattle.pl_engine.specs.Verdicts.{blocked, refusal, refuse, stop_of}
 use Rattle.pl_profile.specs.declared.profile.Profile.{Profile}
-use Rattle.pl_report.specs.Lines.{read_fault_text}
 use Rattle.pl_engine.specs.Judged.{judged_verdicts}
 use Rattle.pl_cli.specs.declared.judging.Judging.{Judging}
 use Rattle.pl_cli.specs.declared.judging.Ended as declared
 use Rattle.pl_cli.specs.declared.judging.Ended.TheVariants as ended
-use Rattle.pl_cli.specs.Output.{How, Whole, TooLong, Fault, cause_of, cause_of_ending, cause_status, cut, how_of, last_text, limit, lines, output, status, status_of, stop_status}
-use Rattle.pl_cli.specs.Progress.{Tells, asked, tells, EndsAs, ShelfCause, Taken, TakenCut, is_fault, last_cause, verdicts_in}
+use Rattle.pl_cli.specs.Output.{How, Whole, TooLong, Fault, View, cause_of, cause_of_ending, cause_status, cut, how_of, limit, output, status, status_of, stop_status, text_of}
+use Rattle.pl_cli.specs.Progress.{IsTallyOf, Tells, asked, tells, EndsAs, ShelfCause, Taken, TakenCut, is_fault, last_cause, last_lines, lines_in}
 use Rattle.pl_cli.specs.Promise.{Answers, CaptureRead, IsFront, Judges, Opens, judged, unread}
-use Rattle.pl_cli.specs.Words.{IsJudged}
+use Rattle.pl_cli.specs.Words.{IsJudged, nothing_read}
 use Rattle.pl_cli.proofs.Ends.{Finishes, cut_part, fault_cause, fault_text, finishes}
 use Rattle.pl_cli.proofs.Known.{engine_known, reader_known}
-use Rattle.pl_cli.proofs.Texts.{all_judged, text_by}
-use Rattle.pl_cli.proofs.Tops.{behind_lines, false_is_true, was_opened}
+use Rattle.pl_cli.proofs.Texts.{all_judged}
+use Rattle.pl_cli.proofs.Tops.{false_is_true, was_opened}
+use Rattle.pl_cli.proofs.Written.{behind_lines}
 
 -- lines, and then what the last one led to
-answers_behind : {O : Type 0} {T : sink.Ghosts O} {last : List ℕ} {status : ℕ} {old mid new : O} {answer : ℕ} (before : List ℕ) →
+pub answers_behind : {O : Type 0} {T : sink.Ghosts O} {last : List ℕ} {status : ℕ} {old mid new : O} {answer : ℕ} (before : List ℕ) →
     T.written mid ≡ plus (T.written old) before → ((k : ℕ) → HasRoom (T.room old) (length before + k) → HasRoom (T.room mid) k) → T.faults mid ≡ T.faults old →
     Answers T last status mid new answer → Answers T (before ++ last) status old new answer
 answers_behind {T = T} {last} {old = old} {mid} {new} before written room kept a = record {
-  written = λ n8. a.written n8 ∙ ap (λ (v : Option (List ℕ)). plus v last) written ∙ plus-plus (T.written old) before last;
+  written = λ n8. a.written n8 ∙ ap (λ (o : Option (List ℕ)). plus o last) written ∙ plus-plus (T.written old) before last;
   answered = a.answered;
   kept = λ n8. a.kept n8 ∙ kept;
   rose = λ is8. subst (λ (n : ℕ). Rose n (T.faults new)) kept (a.rose is8);
@@ -49,54 +50,54 @@ answers_text {T = T} {text} {text'} {status} {status'} {old} {new} {answer} t s 
     subst (λ (x : List ℕ). Answers T x status' old new answer) t (subst (λ (n : ℕ). Answers T text n old new answer) s a)
 
 -- where nothing more is told, what was read is the whole
-ends_untold : (p : Profile) (j : Judging) (k : Engine) (w w1 : Tells) (rest : Option (List ℕ)) (e : declared.Ended) (read extra : List ℕ) →
-    EndsAs p e read extra rest j k w w1 → EndsAs p e read extra (Some []) j k w w1
-ends_untold p j k w w1 rest ended.Whole read extra h = (h.0, refl, h.2)
-ends_untold p j k w w1 rest ended.Fault read extra h = h
-ends_untold p j k w w1 rest ended.TooLong read extra h = h
-ends_untold p j k w w1 rest (ended.Refused s) read extra h = h
+ends_untold : (v : View) (p : Profile) (j : Judging) (k : Engine) (w w1 : Tells) (rest : Option (List ℕ)) (e : declared.Ended) (read extra : List ℕ) →
+    EndsAs v p e read extra rest j k w w1 → EndsAs v p e read extra (Some []) j k w w1
+ends_untold v p j k w w1 rest ended.Whole read extra h = (h.0, refl, h.2)
+ends_untold v p j k w w1 rest ended.Fault read extra h = h
+ends_untold v p j k w w1 rest ended.TooLong read extra h = h
+ends_untold v p j k w w1 rest (ended.Refused s) read extra h = h
 
-module _ {H O : Type 0} {S : shelf.Ghosts H} {T : sink.Ghosts O} {p : Profile} {capture : List ℕ} {old new : H} {out mid out' : O} {answer : ℕ} where
-  judges_file : {j : Judging} {k : Engine} (e : declared.Ended) (bytes : List ℕ) →
-      Finishes p bytes j k (last_cause e j.reader) (tells T out) (tells T mid) →
+module _ {H O : Type 0} {S : shelf.Ghosts H} {T : sink.Ghosts O} {v : View} {p : Profile} {capture : List ℕ} {old new : H} {out mid out' : O} {answer : ℕ} where
+  judges_file : {j : Judging} {k : Engine} {counts : Tally} (e : declared.Ended) (bytes : List ℕ) →
+      Finishes v p bytes j k counts (last_cause e j.reader) (tells T out) (tells T mid) →
       CaptureRead S capture bytes old new → T.faults mid ≡ T.faults out →
-      Answers T (last_text j.items j.verdicts (last_cause e j.reader)) (cause_status j.verdicts (last_cause e j.reader)) mid out' answer →
-      Judges S T p capture old new out out' answer
+      Answers T (last_lines v counts j (last_cause e j.reader)) (cause_status j.verdicts (last_cause e j.reader)) mid out' answer →
+      Judges S T v p capture old new out out' answer
   judges_file e bytes f read kept a =
       judged bytes read (answers_text (sym f.text) (sym f.status) (answers_behind f.before f.written f.room_left kept a))
 
   -- no fault of the shelf came
-  judges_fine : {j : Judging} {k : Engine} (e : declared.Ended) →
-      Taken p e j k (tells T out) (tells T mid) (asked S capture old new) →
+  judges_fine : {j : Judging} {k : Engine} {counts : Tally} (e : declared.Ended) →
+      Taken v p e j k (tells T out) (tells T mid) (asked S capture old new) → IsTallyOf k counts →
       is_fault e ≡ false → Opens S capture old new → S.faults new ≡ S.faults old → T.faults mid ≡ T.faults out →
-      Answers T (last_text j.items j.verdicts (last_cause e j.reader)) (cause_status j.verdicts (last_cause e j.reader)) mid out' answer →
-      Judges S T p capture old new out out' answer
-  judges_fine {j} {k} e t fine opens kept out-kept a = by (S.told old) refl
+      Answers T (last_lines v counts j (last_cause e j.reader)) (cause_status j.verdicts (last_cause e j.reader)) mid out' answer →
+      Judges S T v p capture old new out out' answer
+  judges_fine {j} {k} e t is fine opens kept out-kept a = by (S.told old) refl
     where
       is_open : S.is_open new ≡ true
       is_open = was_opened (S.is_open new) t.read e t.nothing fine
 
-      by : (b : Bool) → S.told old ≡ b → Judges S T p capture old new out out' answer
+      by : (b : Bool) → S.told old ≡ b → Judges S T v p capture old new out out' answer
       by true told =
           let q = t.from_file told is_open in
           let bytes : List ℕ = (t.read ++ t.extra) ++ q.0 in
           judges_file e bytes
           (finishes bytes t.read t.extra q.0 e
-          (subst (λ (x : Option (List ℕ)). EndsAs p e t.read t.extra x j k (tells T out) (tells T mid)) q.2 t.ends) t.size refl fine)
+          (subst (λ (x : Option (List ℕ)). EndsAs v p e t.read t.extra x j k (tells T out) (tells T mid)) q.2 t.ends) is t.size refl fine)
           (record { opens = opens; is_open = is_open; is_file = λ _. q.1; kept = kept }) out-kept a
       by false untold =
           let bytes : List ℕ = (t.read ++ t.extra) ++ [] in
-          judges_file e bytes (finishes bytes t.read t.extra [] e (ends_untold p j k (tells T out) (tells T mid) (S.rest new) e t.read t.extra t.ends) t.size refl fine)
+          judges_file e bytes (finishes bytes t.read t.extra [] e (ends_untold v p j k (tells T out) (tells T mid) (S.rest new) e t.read t.extra t.ends) is t.size refl fine)
           (record { opens = opens; is_open = is_open; is_file = λ told. absurd (false_is_true (sym untold ∙ told)); kept = kept }) out-kept a
 
-  pub judges : {j : Judging} {k : Engine} (e : declared.Ended) →
-      Taken p e j k (tells T out) (tells T mid) (asked S capture old new) →
+  pub judges : {j : Judging} {k : Engine} {counts : Tally} (e : declared.Ended) →
+      Taken v p e j k (tells T out) (tells T mid) (asked S capture old new) → IsTallyOf k counts →
       Opens S capture old new → ShelfCause e (S.faults old) (S.faults new) → (S.sure old ≡ true → IsSome (S.file old capture) → is_fault e ≡ false) →
       T.faults mid ≡ T.faults out →
-      Answers T (last_text j.items j.verdicts (last_cause e j.reader)) (cause_status j.verdicts (last_cause e j.reader)) mid out' answer →
-      Judges S T p capture old new out out' answer
-  judges ended.Whole t opens cause sure kept a = judges_fine ended.Whole t refl opens cause kept a
-  judges ended.Fault t opens cause sure kept a =
+      Answers T (last_lines v counts j (last_cause e j.reader)) (cause_status j.verdicts (last_cause e j.reader)) mid out' answer →
+      Judges S T v p capture old new out out' answer
+  judges ended.Whole t is opens cause sure kept a = judges_fine ended.Whole t is refl opens cause kept a
+  judges ended.Fault t is opens cause sure kept a =
       let front : (told : S.told old ≡ true) → S.is_open new ≡ true → IsFront t.read (S.file old capture) (S.rest new) =
       λ told o. subst (λ (l : List ℕ). IsFront l (S.file old capture) (S.rest new))
       (ap (λ (l : List ℕ). t.read ++ l) t.ends.0 ∙ append-nil t.read) (t.from_file told o) in
@@ -108,20 +109,20 @@ module _ {H O : Type 0} {S : shelf.Ghosts H} {T : sink.Ghosts O} {p : Profile} {
         rose = cause;
         not_sure = λ s f. false_is_true (sym (sure s f));
       })
-      (answers_text (sym (fault_text t.read t.ends.1)) refl
-      (answers_behind (lines (verdicts_in p t.read)) t.ends.1.written t.ends.1.room_left kept a))
-  judges ended.TooLong t opens cause sure kept a = judges_fine ended.TooLong t refl opens cause kept a
-  judges (ended.Refused s) t opens cause sure kept a = judges_fine (ended.Refused s) t refl opens cause kept a
+      (answers_text (sym (fault_text t.read t.ends.1 is)) refl
+      (answers_behind (lines_in v p t.read) t.ends.1.written t.ends.1.room_left kept a))
+  judges ended.TooLong t is opens cause sure kept a = judges_fine ended.TooLong t is refl opens cause kept a
+  judges (ended.Refused s) t is opens cause sure kept a = judges_fine (ended.Refused s) t is refl opens cause kept a
 
-module _ {H O : Type 0} {S : shelf.Ghosts H} {T : sink.Ghosts O} {p : Profile} {capture : List ℕ} {old new : H} {out out' : O} {answer : ℕ} where
+module _ {H O : Type 0} {S : shelf.Ghosts H} {T : sink.Ghosts O} {v : View} {p : Profile} {capture : List ℕ} {old new : H} {out out' : O} {answer : ℕ} where
   -- the sink failed within the lines of an item
   pub judges_lost : {k : Engine} →
-      TakenCut p k (tells T out) (tells T out') (asked S capture old new) →
+      TakenCut v p k (tells T out) (tells T out') (asked S capture old new) →
       Opens S capture old new → S.is_open new ≡ true → S.faults new ≡ S.faults old → Rose (T.faults out) (T.faults out') → answer ≡ 8 →
-      Judges S T p capture old new out out' answer
+      Judges S T v p capture old new out out' answer
   judges_lost t opens is_open kept rose is8 = by (S.told old) refl
     where
-      lost : (bytes left : List ℕ) → bytes ≡ t.read ++ left → Answers T (output p bytes) (status_of p bytes) out out' answer
+      lost : (bytes left : List ℕ) → bytes ≡ t.read ++ left → Answers T (output v p bytes) (status_of p bytes) out out' answer
       lost bytes left e =
           let both = cut_part bytes t.read left t.cut e t.size in
           record {
@@ -133,7 +134,7 @@ module _ {H O : Type 0} {S : shelf.Ghosts H} {T : sink.Ghosts O} {p : Profile} {
             no_room = λ _. both.1;
           }
 
-      by : (b : Bool) → S.told old ≡ b → Judges S T p capture old new out out' answer
+      by : (b : Bool) → S.told old ≡ b → Judges S T v p capture old new out out' answer
       by true told =
           let q = t.from_file told in
           judged (t.read ++ q.0) (record { opens = opens; is_open = is_open; is_file = λ _. q.1; kept = kept }) (lost (t.read ++ q.0) q.0 refl)
@@ -191,16 +192,16 @@ judged_status p file =
 
 -- ---- a capture of which nothing was read
 
-pub cut_nothing : (p : Profile) → cut p [] ≡ read_fault_text
-cut_nothing p =
+pub cut_nothing : (v : View) (p : Profile) → cut v p [] ≡ nothing_read v p
+cut_nothing v p =
     let none : (reading []).items ≡ [] = ap (λ (x : Reading). x.items) (reading_short [] (omega arith)) in
     let open_is : (reading []).ending ≡ Open 0 [] = ap (λ (x : Reading). x.ending) (reading_short [] (omega arith)) in
-    (all_judged p (reading []) Fault (ap (refusal p []) none)).0
-    ∙ ap (λ (xs : List Entry). text_by p xs (cause_of_ending (reading []).ending Fault)) none
-    ∙ ap (λ (e : Ending). text_by p [] (cause_of_ending e Fault)) open_is
+    (all_judged v p (reading []) Fault (ap (refusal p []) none)).0
+    ∙ ap (λ (xs : List Entry). text_of v p xs (cause_of_ending (reading []).ending Fault)) none
+    ∙ ap (λ (e : Ending). text_of v p [] (cause_of_ending e Fault)) open_is
 
-pub judges_status : {H O : Type 0} {S : shelf.Ghosts H} {T : sink.Ghosts O} {p : Profile} {capture : List ℕ} {old new : H} {out out' : O} {answer : ℕ} →
-    Judges S T p capture old new out out' answer → (answer ≤ 1) ⊎ ((4 ≤ answer) × (answer ≤ 8))
+pub judges_status : {H O : Type 0} {S : shelf.Ghosts H} {T : sink.Ghosts O} {v : View} {p : Profile} {capture : List ℕ} {old new : H} {out out' : O} {answer : ℕ} →
+    Judges S T v p capture old new out out' answer → (answer ≤ 1) ⊎ ((4 ≤ answer) × (answer ≤ 8))
 judges_status {p = p} {answer = answer} (judged bytes c a) = by (cases_eq answer 8) (judged_status p bytes)
   where
     by : (answer ≡ 8) ⊎ (answer ≢ 8) → IsJudged (status_of p bytes) → (answer ≤ 1) ⊎ ((4 ≤ answer) × (answer ≤ 8))

@@ -1,4 +1,4 @@
-pub mod Lists
+pub mod Written
 pub mod Texts
 pub mod Steps
 pub mod Known
@@ -11,7 +11,7 @@ pub mod Ends
 pub mod Tops
 pub mod Profiles
 pub mod Judged
-pub mod Commands
-pub mod Checked
+pub mod CommandWords
+pub mod Shown
 pub mod Headline
 pub mod Statuses

@@ -10,7 +10,9 @@ use Rattle.pl_profile.specs.declared.profile.Profile.{Profile}
 use Rattle.pl_engine.specs.declared.engine.Engine.{Engine}
 use Rattle.pl_engine.specs.Engine as engine
 use Rattle.pl_engine.specs.Verdicts.{history_after}
+use Rattle.pl_engine.proofs.Lists.{length-history}
 use Rattle.pl_cli.specs.declared.judging.Judging.{Judging}
+use Rattle.pl_cli.specs.Output.{View}
 use Rattle.pl_cli.specs.Progress.{Accepts, Blocks, CutIn, Loses, RefusedIn, SoFar, Tells}
 use Rattle.pl_cli.proofs.Longer.{done_goes, holding_goes, prefix, stays, stopped_is, waiting_goes}
 use Rattle.pl_cli.proofs.Refusals.{cut_before, engine_refuses, reader_refuses, refused_before, sink_fails}
@@ -18,11 +20,11 @@ use Rattle.pl_cli.proofs.Steps.{so_far_item, so_far_on}
 
 -- the reader as it is after an answer, and the counts as before
 abbrev pub with_reader : Judging → Standing → Judging
-with_reader j s = record { reader = s; items = j.items; verdicts = j.verdicts }
+with_reader j s = record { reader = s; items = j.items; listed = j.listed; verdicts = j.verdicts }
 
-pub so_far_start : {p : Profile} {j : Judging} {k : Engine} {w w1 : Tells} (before piece : List ℕ) →
-    SoFar p before j k w w1 → SoFar p (before ++ take 0 piece) j k w w1
-so_far_start {p} {j} {k} {w} {w1} before piece f = subst (λ (b : List ℕ). SoFar p b j k w w1) (sym (append-nil before)) f
+pub so_far_start : {v : View} {p : Profile} {j : Judging} {k : Engine} {w w1 : Tells} (before piece : List ℕ) →
+    SoFar v p before j k w w1 → SoFar v p (before ++ take 0 piece) j k w w1
+so_far_start {v} {p} {j} {k} {w} {w1} before piece f = subst (λ (b : List ℕ). SoFar v p b j k w w1) (sym (append-nil before)) f
 
 -- the bytes so far and a part of what is left
 pub part_on : (before piece rest : List ℕ) (place used : ℕ) → rest ≡ drop place piece → (before ++ take place piece) ++ take used rest ≡ before ++ take (place + used) piece
@@ -39,71 +41,67 @@ all_on before piece rest place h =
 pub all_behind : (before piece : List ℕ) (place : ℕ) → (before ++ take place piece) ++ drop place piece ≡ before ++ piece
 all_behind before piece place = all_on before piece (drop place piece) place refl
 
-pub piece_more : {p : Profile} {j : Judging} {k : Engine} {w w1 : Tells} (so_far more bytes : List ℕ) (new : Standing) →
-    so_far ++ more ≡ bytes → SoFar p so_far j k w w1 → NeedsMore so_far more new → ((pending : List ℕ) × (new.phase ≡ Waiting pending)) →
-    SoFar p bytes (with_reader j new) k w w1
-piece_more {p} {j} {k} {w} {w1} so_far more bytes new e f a b =
-    subst (λ (l : List ℕ). SoFar p l (with_reader j new) k w w1) e
-    (so_far_on so_far (so_far ++ more) (with_reader j new) f a.items a.stands (waiting_goes new (so_far ++ more) b.0 b.1 a.stands) refl refl)
+pub piece_more : {v : View} {p : Profile} {j : Judging} {k : Engine} {w w1 : Tells} (so_far more bytes : List ℕ) (new : Standing) →
+    so_far ++ more ≡ bytes → SoFar v p so_far j k w w1 → NeedsMore so_far more new → ((pending : List ℕ) × (new.phase ≡ Waiting pending)) →
+    SoFar v p bytes (with_reader j new) k w w1
+piece_more {v} {p} {j} {k} {w} {w1} so_far more bytes new e f a b =
+    subst (λ (l : List ℕ). SoFar v p l (with_reader j new) k w w1) e
+    (so_far_on so_far (so_far ++ more) (with_reader j new) f a.items a.stands (waiting_goes new (so_far ++ more) b.0 b.1 a.stands) refl refl refl)
 
-pub piece_end : {p : Profile} {j : Judging} {k : Engine} {w w1 : Tells} (so_far more bytes : List ℕ) (new : Standing) →
-    so_far ++ more ≡ bytes → SoFar p so_far j k w w1 → ReachesEnd so_far more new → new.phase ≡ Done →
-    SoFar p bytes (with_reader j new) k w w1
-piece_end {p} {j} {k} {w} {w1} so_far more bytes new e f a b =
-    subst (λ (l : List ℕ). SoFar p l (with_reader j new) k w w1) e
-    (so_far_on so_far (so_far ++ more) (with_reader j new) f a.items a.stands (done_goes new (so_far ++ more) b a.stands) refl refl)
+pub piece_end : {v : View} {p : Profile} {j : Judging} {k : Engine} {w w1 : Tells} (so_far more bytes : List ℕ) (new : Standing) →
+    so_far ++ more ≡ bytes → SoFar v p so_far j k w w1 → ReachesEnd so_far more new → new.phase ≡ Done →
+    SoFar v p bytes (with_reader j new) k w w1
+piece_end {v} {p} {j} {k} {w} {w1} so_far more bytes new e f a b =
+    subst (λ (l : List ℕ). SoFar v p l (with_reader j new) k w w1) e
+    (so_far_on so_far (so_far ++ more) (with_reader j new) f a.items a.stands (done_goes new (so_far ++ more) b a.stands) refl refl refl)
 
-pub piece_bad : {p : Profile} {j : Judging} {k : Engine} {w w1 : Tells} (so_far more bytes : List ℕ) (new : Standing) (s : Stop) →
-    so_far ++ more ≡ bytes → SoFar p so_far j k w w1 → Refuses so_far more new → new.phase ≡ Stopped s →
-    RefusedIn p bytes s k w w1
-piece_bad {p} {j} {k} {w} {w1} so_far more bytes new s e f a b =
+pub piece_bad : {v : View} {p : Profile} {j : Judging} {k : Engine} {w w1 : Tells} (so_far more bytes : List ℕ) (new : Standing) (s : Stop) →
+    so_far ++ more ≡ bytes → SoFar v p so_far j k w w1 → Refuses so_far more new → new.phase ≡ Stopped s →
+    RefusedIn v p bytes s k w w1
+piece_bad {v} {p} {j} {k} {w} {w1} so_far more bytes new s e f a b =
     let bad = stopped_is new (so_far ++ more) s b a.stands in
-    subst (λ (l : List ℕ). RefusedIn p l s k w w1) e
+    subst (λ (l : List ℕ). RefusedIn v p l s k w w1) e
     (reader_refuses so_far (so_far ++ more) s f a.items bad (λ rest. stays (so_far ++ more) rest s bad))
 
-length-history : (past xs : List Entry) → length (history_after past xs) ≡ length past + length xs
-length-history past [] = omega arith
-length-history past (x ∷ xs) = omega (arith, length-history (x ∷ past) xs)
-
 -- as many items were judged as the history has
-pub counted : {p : Profile} {j : Judging} {k : Engine} {w w1 : Tells} (bytes : List ℕ) →
-    SoFar p bytes j k w w1 → j.items ≡ length (history_after [] (reading bytes).items)
+pub counted : {v : View} {p : Profile} {j : Judging} {k : Engine} {w w1 : Tells} (bytes : List ℕ) →
+    SoFar v p bytes j k w w1 → j.items ≡ length (history_after [] (reading bytes).items)
 counted bytes f = omega (arith, f.items, length-history [] (reading bytes).items)
 
-pub piece_item : {p : Profile} {j j' : Judging} {k k' : Engine} {w w1 w2 : Tells} (so_far more bytes : List ℕ) (new : Standing) →
-    so_far ++ more ≡ bytes → SoFar p so_far j k w w1 → GivesItem so_far more new → j'.reader ≡ new →
+pub piece_item : {v : View} {p : Profile} {j j' : Judging} {k k' : Engine} {w w1 w2 : Tells} (so_far more bytes : List ℕ) (new : Standing) →
+    so_far ++ more ≡ bytes → SoFar v p so_far j k w w1 → GivesItem so_far more new → j'.reader ≡ new →
     ((past : List Entry) (x : Entry) → new.phase ≡ Holding x → engine.StandsFor k past → j.items ≡ length past →
-    Accepts past x (with_reader j new) j' k k' w1 w2) →
-    SoFar p bytes j' k' w w2
-piece_item {p} {j} {j'} {k} {k'} {w} {w1} {w2} so_far more bytes new e f a same judged =
+    Accepts v past x (with_reader j new) j' k k' w1 w2) →
+    SoFar v p bytes j' k' w w2
+piece_item {v} {p} {j} {j'} {k} {k'} {w} {w1} {w2} so_far more bytes new e f a same judged =
     let stands : StandsFor j'.reader (so_far ++ more) = subst (λ (s : Standing). StandsFor s (so_far ++ more)) (sym same) a.stands in
-    subst (λ (l : List ℕ). SoFar p l j' k' w w2) e
+    subst (λ (l : List ℕ). SoFar v p l j' k' w w2) e
     (so_far_item so_far (so_far ++ more) a.item (with_reader j new) f a.items stands
-    (holding_goes j'.reader (so_far ++ more) a.item (ap (λ (s : Standing). s.phase) same ∙ a.holds) stands) refl refl
+    (holding_goes j'.reader (so_far ++ more) a.item (ap (λ (s : Standing). s.phase) same ∙ a.holds) stands) refl refl refl
     (judged (history_after [] (reading so_far).items) a.item a.holds f.engine_stands (counted so_far f)))
 
-pub piece_blocked : {p : Profile} {j : Judging} {k k' : Engine} {w w1 w2 : Tells} (so_far more rest bytes : List ℕ) (new : Standing) (s : Stop) →
-    (so_far ++ more) ++ rest ≡ bytes → SoFar p so_far j k w w1 → GivesItem so_far more new →
+pub piece_blocked : {v : View} {p : Profile} {j : Judging} {k k' : Engine} {w w1 w2 : Tells} (so_far more rest bytes : List ℕ) (new : Standing) (s : Stop) →
+    (so_far ++ more) ++ rest ≡ bytes → SoFar v p so_far j k w w1 → GivesItem so_far more new →
     ((past : List Entry) (x : Entry) → new.phase ≡ Holding x → engine.StandsFor k past → j.items ≡ length past → Blocks past x s k k' w1 w2) →
-    RefusedIn p bytes s k' w w2
-piece_blocked {p} {j} {k} {k'} {w} {w1} {w2} so_far more rest bytes new s e f a judged =
-    subst (λ (l : List ℕ). RefusedIn p l s k' w w2) e
+    RefusedIn v p bytes s k' w w2
+piece_blocked {v} {p} {j} {k} {k'} {w} {w1} {w2} so_far more rest bytes new s e f a judged =
+    subst (λ (l : List ℕ). RefusedIn v p l s k' w w2) e
     (refused_before (so_far ++ more) rest
     (engine_refuses so_far (so_far ++ more) a.item s f a.items (prefix (so_far ++ more))
     (judged (history_after [] (reading so_far).items) a.item a.holds f.engine_stands (counted so_far f))))
 
-pub piece_lost : {p : Profile} {j : Judging} {k k' : Engine} {w w1 w2 : Tells} (so_far more rest bytes : List ℕ) (new : Standing) →
-    (so_far ++ more) ++ rest ≡ bytes → SoFar p so_far j k w w1 → GivesItem so_far more new →
-    ((past : List Entry) (x : Entry) → new.phase ≡ Holding x → engine.StandsFor k past → j.items ≡ length past → Loses past x k k' w1 w2) →
-    CutIn p bytes k' w w2
-piece_lost {p} {j} {k} {k'} {w} {w1} {w2} so_far more rest bytes new e f a judged =
-    subst (λ (l : List ℕ). CutIn p l k' w w2) e
+pub piece_lost : {v : View} {p : Profile} {j : Judging} {k k' : Engine} {w w1 w2 : Tells} (so_far more rest bytes : List ℕ) (new : Standing) →
+    (so_far ++ more) ++ rest ≡ bytes → SoFar v p so_far j k w w1 → GivesItem so_far more new →
+    ((past : List Entry) (x : Entry) → new.phase ≡ Holding x → engine.StandsFor k past → j.items ≡ length past → Loses v past x k k' w1 w2) →
+    CutIn v p bytes k' w w2
+piece_lost {v} {p} {j} {k} {k'} {w} {w1} {w2} so_far more rest bytes new e f a judged =
+    subst (λ (l : List ℕ). CutIn v p l k' w w2) e
     (cut_before (so_far ++ more) rest
     (sink_fails so_far (so_far ++ more) a.item f a.items (prefix (so_far ++ more))
     (judged (history_after [] (reading so_far).items) a.item a.holds f.engine_stands (counted so_far f))))
 
 -- the whole piece was used
-pub piece_done : {p : Profile} {j : Judging} {k : Engine} {w w1 : Tells} (before piece : List ℕ) (place : ℕ) →
-    length piece ≤ place → SoFar p (before ++ take place piece) j k w w1 → SoFar p (before ++ piece) j k w w1
-piece_done {p} {j} {k} {w} {w1} before piece place le f =
-    subst (λ (l : List ℕ). SoFar p (before ++ l) j k w w1) (take_all place piece le) f
+pub piece_done : {v : View} {p : Profile} {j : Judging} {k : Engine} {w w1 : Tells} (before piece : List ℕ) (place : ℕ) →
+    length piece ≤ place → SoFar v p (before ++ take place piece) j k w w1 → SoFar v p (before ++ piece) j k w w1
+piece_done {v} {p} {j} {k} {w} {w1} before piece place le f =
+    subst (λ (l : List ℕ). SoFar v p (before ++ l) j k w w1) (take_all place piece le) f

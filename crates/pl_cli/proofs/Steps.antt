@@ -12,17 +12,18 @@ use Rattle.pl_engine.specs.declared.engine.Engine.{Engine}
 use Rattle.pl_engine.specs.Engine as engine
 use Rattle.pl_engine.specs.Verdicts.{blocked, history_after, refusal, verdicts_after, verdicts_at}
 use Rattle.pl_cli.specs.declared.judging.Judging.{Judging}
-use Rattle.pl_cli.specs.Output.{lines}
-use Rattle.pl_cli.specs.Progress.{verdicts_in, SoFar, Accepts, Tells}
-use Rattle.pl_cli.proofs.Lists.{history-append, refusal-append, verdicts-append}
-use Rattle.pl_cli.proofs.Texts.{lines-append}
+use Rattle.pl_cli.specs.Output.{View, lines_after, lines_at, listed}
+use Rattle.pl_cli.specs.Progress.{lines_in, verdicts_in, SoFar, Accepts, Tells}
+use Rattle.pl_engine.proofs.Lists.{history-append, refusal-append, verdicts-append}
+use Rattle.pl_cli.proofs.Texts.{lines_after-more, listed-append}
 
 -- by an answer that gave no item
-pub so_far_on : {p : Profile} {k : Engine} {w w1 : Tells} {j : Judging} (before bytes : List ℕ) (j' : Judging) →
-    SoFar p before j k w w1 → (reading bytes).items ≡ (reading before).items → reader.StandsFor j'.reader bytes →
-    ((s : Stop) → (reading bytes).ending ≡ Bad s → ⊥) → j'.items ≡ j.items → j'.verdicts ≡ j.verdicts → SoFar p bytes j' k w w1
-so_far_on {p} {k} {w} {w1} {j} before bytes j' f same stands goes i v =
+pub so_far_on : {v : View} {p : Profile} {k : Engine} {w w1 : Tells} {j : Judging} (before bytes : List ℕ) (j' : Judging) →
+    SoFar v p before j k w w1 → (reading bytes).items ≡ (reading before).items → reader.StandsFor j'.reader bytes →
+    ((s : Stop) → (reading bytes).ending ≡ Bad s → ⊥) → j'.items ≡ j.items → j'.listed ≡ j.listed → j'.verdicts ≡ j.verdicts → SoFar v p bytes j' k w w1
+so_far_on {v} {p} {k} {w} {w1} {j} before bytes j' f same stands goes i l n =
     let vs : verdicts_in p bytes ≡ verdicts_in p before = ap (verdicts_after p []) same in
+    let ls : lines_in v p bytes ≡ lines_in v p before = ap (λ (xs : List Entry). lines_after v p [] xs) same in
     record {
       profile_is = f.profile_is;
       reader_stands = stands;
@@ -30,24 +31,28 @@ so_far_on {p} {k} {w} {w1} {j} before bytes j' f same stands goes i v =
       engine_stands = subst (λ (xs : List Entry). engine.StandsFor k (history_after [] xs)) (sym same) f.engine_stands;
       accepted = ap (refusal p []) same ∙ f.accepted;
       items = i ∙ f.items ∙ sym (ap (λ (xs : List Entry). length xs) same);
-      verdicts = v ∙ f.verdicts ∙ sym (ap (λ (xs : List Verdict). length xs) vs);
-      written = f.written ∙ sym (ap (λ (xs : List Verdict). plus w.written (lines xs)) vs);
-      room_left = λ n room. f.room_left n (subst (λ (xs : List Verdict). HasRoom w.room (length (lines xs) + n)) vs room);
+      listed = l ∙ f.listed ∙ sym (ap (listed v) same);
+      verdicts = n ∙ f.verdicts ∙ sym (ap (λ (xs : List Verdict). length xs) vs);
+      written = f.written ∙ sym (ap (plus w.written) ls);
+      room_left = λ m room. f.room_left m (subst (λ (xs : List ℕ). HasRoom w.room (length xs + m)) ls room);
     }
 
 -- by an item that was judged
-pub so_far_item : {p : Profile} {k k' : Engine} {w w1 w2 : Tells} {j j' : Judging} (before bytes : List ℕ) (x : Entry) (j1 : Judging) →
-    SoFar p before j k w w1 → (reading bytes).items ≡ (reading before).items ++ x ∷ [] → reader.StandsFor j'.reader bytes →
-    ((s : Stop) → (reading bytes).ending ≡ Bad s → ⊥) → j1.items ≡ j.items → j1.verdicts ≡ j.verdicts →
-    Accepts (history_after [] (reading before).items) x j1 j' k k' w1 w2 → SoFar p bytes j' k' w w2
-so_far_item {p} {k} {k'} {w} {w1} {w2} {j} {j'} before bytes x j1 f more stands goes i v a =
+pub so_far_item : {v : View} {p : Profile} {k k' : Engine} {w w1 w2 : Tells} {j j' : Judging} (before bytes : List ℕ) (x : Entry) (j1 : Judging) →
+    SoFar v p before j k w w1 → (reading bytes).items ≡ (reading before).items ++ x ∷ [] → reader.StandsFor j'.reader bytes →
+    ((s : Stop) → (reading bytes).ending ≡ Bad s → ⊥) → j1.items ≡ j.items → j1.listed ≡ j.listed → j1.verdicts ≡ j.verdicts →
+    Accepts v (history_after [] (reading before).items) x j1 j' k k' w1 w2 → SoFar v p bytes j' k' w w2
+so_far_item {v} {p} {k} {k'} {w} {w1} {w2} {j} {j'} before bytes x j1 f more stands goes i l n a =
     let xs : List Entry = (reading before).items in
     let past : List Entry = history_after [] xs in
     let here : List Verdict = verdicts_at p past x in
     let here_is : verdicts_at k.profile past x ≡ here = ap (λ (q : Profile). verdicts_at q past x) f.profile_is in
+    let shown : List ℕ = lines_at v p past x in
+    let shown_is : lines_at v k.profile past x ≡ shown = ap (λ (q : Profile). lines_at v q past x) f.profile_is in
     let vs : verdicts_in p bytes ≡ verdicts_in p before ++ here =
     ap (verdicts_after p []) more ∙ verdicts-append p [] xs (x ∷ []) ∙ ap (λ (l : List Verdict). verdicts_after p [] xs ++ l) (append-nil here) in
-    let ls : lines (verdicts_in p bytes) ≡ lines (verdicts_in p before) ++ lines here = ap lines vs ∙ lines-append (verdicts_in p before) here in
+    let ls : lines_in v p bytes ≡ lines_in v p before ++ shown =
+    ap (λ (ys : List Entry). lines_after v p [] ys) more ∙ lines_after-more v p xs x in
     record {
       profile_is = a.profile_is ∙ f.profile_is;
       reader_stands = stands;
@@ -55,15 +60,17 @@ so_far_item {p} {k} {k'} {w} {w1} {w2} {j} {j'} before bytes x j1 f more stands 
       engine_stands = subst (engine.StandsFor k') (sym (ap (history_after []) more ∙ history-append [] xs (x ∷ []))) a.engine_stands;
       accepted = ap (refusal p []) more ∙ refusal-append p [] xs (x ∷ []) f.accepted ∙ no_more p past x (ap (λ (q : Profile). blocked q past x) (sym f.profile_is) ∙ a.allowed);
       items = a.items ∙ ap (λ (n : ℕ). n + 1) (i ∙ f.items) ∙ sym (ap (λ (l : List Entry). length l) more ∙ length-append xs (x ∷ []));
-      verdicts = a.verdicts ∙ ap (λ (n : ℕ). n + length (verdicts_at k.profile past x)) (v ∙ f.verdicts)
+      listed = a.listed ∙ ap (λ (m : ℕ). m + listed v (x ∷ [])) (l ∙ f.listed)
+          ∙ sym (ap (listed v) more ∙ listed-append v xs (x ∷ []));
+      verdicts = a.verdicts ∙ ap (λ (m : ℕ). m + length (verdicts_at k.profile past x)) (n ∙ f.verdicts)
           ∙ ap (λ (l : List Verdict). length (verdicts_in p before) + length l) here_is
           ∙ sym (ap (λ (l : List Verdict). length l) vs ∙ length-append (verdicts_in p before) here);
-      written = a.written ∙ ap (λ (l : List Verdict). plus w1.written (lines l)) here_is ∙ ap (λ (o : Option (List ℕ)). plus o (lines here)) f.written
-          ∙ plus-plus w.written (lines (verdicts_in p before)) (lines here) ∙ sym (ap (plus w.written) ls);
-      room_left = λ n room. a.room_left n (subst (λ (l : List Verdict). HasRoom w1.room (length (lines l) + n)) (sym here_is)
-          (f.room_left (length (lines here) + n) (subst (HasRoom w.room)
-          (ap (λ (l : List ℕ). length l + n) ls ∙ ap (λ (m : ℕ). m + n) (length-append (lines (verdicts_in p before)) (lines here))
-          ∙ add_assoc (length (lines (verdicts_in p before))) (length (lines here)) n) room)));
+      written = a.written ∙ ap (plus w1.written) shown_is ∙ ap (λ (o : Option (List ℕ)). plus o shown) f.written
+          ∙ plus-plus w.written (lines_in v p before) shown ∙ sym (ap (plus w.written) ls);
+      room_left = λ n room. a.room_left n (subst (λ (l : List ℕ). HasRoom w1.room (length l + n)) (sym shown_is)
+          (f.room_left (length shown + n) (subst (HasRoom w.room)
+          (ap (λ (l : List ℕ). length l + n) ls ∙ ap (λ (m : ℕ). m + n) (length-append (lines_in v p before) shown)
+          ∙ add_assoc (length (lines_in v p before)) (length shown) n) room)));
     }
   where
     no_more : (p : Profile) (past : List Entry) (x : Entry) → blocked p past x ≡ None → refusal p past (x ∷ []) ≡ None

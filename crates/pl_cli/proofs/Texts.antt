@@ -1,6 +1,7 @@
 -- What is written and answered for a reading, by what the engine makes of its items.
-use Rattle.std.proofs.Common.{◌≡◌, ◌++◌, List, ℕ, [], ◌∷◌, refl, ap, ◌∙◌, length, append_assoc, append-nil, Some, None}
+use Rattle.std.proofs.Common.{◌≡◌, ◌++◌, ◌+◌, List, ℕ, [], ◌∷◌, refl, ap, ◌∙◌, sym, length, append_assoc, append-nil, Some, None}
 use Rattle.std.proofs.lemmas.List.Concat.{flat_map-append}
+use Rattle.std.proofs.lemmas.List.Sums.{sum_by-append}
 use Rattle.pl_base.specs.declared.stop.Stop.{Stop}
 use Rattle.pl_base.specs.declared.verdict.Verdict.{Verdict}
 use Rattle.pl_capture.specs.Entry.{Entry}
@@ -11,39 +12,53 @@ use Rattle.pl_engine.specs.Events.{number_after}
 use Rattle.pl_engine.specs.Verdicts.{accept, accepted, blocked, history_after, refusal, refuse, stop_of, verdicts_after, verdicts_at}
 use Rattle.pl_report.specs.Lines.{stop_text, verdict_text}
 use Rattle.pl_engine.specs.Judged.{judged_items}
-use Rattle.pl_cli.specs.Output.{How, Cause, AtRefusal, cause_of, cause_of_ending, cause_status, last_text, lines, status, stop_status, text}
-use Rattle.pl_cli.proofs.Lists.{accepted-append, accepted_all, refusal-append, verdicts-append}
+use Rattle.pl_engine.proofs.Lists.{accepted-append, accepted_all, refusal-append}
+use Rattle.pl_cli.specs.Output.{How, Cause, AtRefusal, View, cause_of, cause_of_ending, cause_status, is_listed, last_text, lines, lines_after, lines_at, listed, status, stop_status, summary, tally_after, text, text_of}
 
 pub lines-append : (a b : List Verdict) → lines (a ++ b) ≡ lines a ++ lines b
 lines-append a b = flat_map-append verdict_text a b
 
--- what is written where the engine judged these items, and judging ended so
-abbrev pub text_by : Profile → List Entry → Cause → List ℕ
-text_by p xs c = lines (verdicts_after p [] xs) ++ last_text (length xs) (length (verdicts_after p [] xs)) c
+-- the lines of items, one part after another
+pub lines_after-append : (v : View) (p : Profile) (past xs ys : List Entry) →
+    lines_after v p past (xs ++ ys) ≡ lines_after v p past xs ++ lines_after v p (history_after past xs) ys
+lines_after-append v p past [] ys = refl
+lines_after-append v p past (x ∷ xs) ys =
+    ap (λ (l : List ℕ). lines_at v p past x ++ l) (lines_after-append v p (x ∷ past) xs ys)
+    ∙ sym (append_assoc (lines_at v p past x) (lines_after v p (x ∷ past) xs) (lines_after v p (history_after (x ∷ past) xs) ys))
+
+-- and of one item more
+pub lines_after-more : (v : View) (p : Profile) (xs : List Entry) (x : Entry) →
+    lines_after v p [] (xs ++ x ∷ []) ≡ lines_after v p [] xs ++ lines_at v p (history_after [] xs) x
+lines_after-more v p xs x =
+    lines_after-append v p [] xs (x ∷ [])
+    ∙ ap (λ (l : List ℕ). lines_after v p [] xs ++ l) (append-nil (lines_at v p (history_after [] xs) x))
+
+pub listed-append : (v : View) (xs ys : List Entry) → listed v (xs ++ ys) ≡ listed v xs + listed v ys
+listed-append v xs ys = sum_by-append _ xs ys
 
 abbrev pub status_by : Profile → List Entry → Cause → ℕ
 status_by p xs c = cause_status (length (verdicts_after p [] xs)) c
 
-by_parts : (p : Profile) (r : Reading) (how : How) (xs : List Entry) (c : Cause) → judged_items p r ≡ xs → cause_of (refusal p [] r.items) r.ending how ≡ c →
-    (text p r how ≡ text_by p xs c) × (status p r how ≡ status_by p xs c)
+by_parts : (v : View) (p : Profile) (r : Reading) (how : How) (xs : List Entry) (c : Cause) → judged_items p r ≡ xs → cause_of (refusal p [] r.items) r.ending how ≡ c →
+    (text v p r how ≡ text_of v p xs c) × (status p r how ≡ status_by p xs c)
 unfolding text status
-by_parts p r how xs c h k = (
-  ap (λ l. text_by p l (cause_of (refusal p [] r.items) r.ending how)) h ∙ ap (text_by p xs) k,
+by_parts v p r how xs c h k = (
+  ap (λ l. text_of v p l (cause_of (refusal p [] r.items) r.ending how)) h ∙ ap (text_of v p xs) k,
   ap (λ l. status_by p l (cause_of (refusal p [] r.items) r.ending how)) h ∙ ap (status_by p xs) k,
 )
 
 -- where the engine refuses none of the items
-pub all_judged : (p : Profile) (r : Reading) (how : How) → refusal p [] r.items ≡ None →
-    (text p r how ≡ text_by p r.items (cause_of_ending r.ending how)) × (status p r how ≡ status_by p r.items (cause_of_ending r.ending how))
-all_judged p r how h = by_parts p r how r.items _ (accepted_all p [] r.items h) (ap (λ o. cause_of o r.ending how) h)
+pub all_judged : (v : View) (p : Profile) (r : Reading) (how : How) → refusal p [] r.items ≡ None →
+    (text v p r how ≡ text_of v p r.items (cause_of_ending r.ending how)) × (status p r how ≡ status_by p r.items (cause_of_ending r.ending how))
+all_judged v p r how h = by_parts v p r how r.items _ (accepted_all p [] r.items h) (ap (λ o. cause_of o r.ending how) h)
 
 -- where it refuses the item behind these
-pub one_refused : (p : Profile) (r : Reading) (how : How) (xs : List Entry) (x : Entry) (tail : List Entry) (refused : Refused) →
+pub one_refused : (v : View) (p : Profile) (r : Reading) (how : How) (xs : List Entry) (x : Entry) (tail : List Entry) (refused : Refused) →
     r.items ≡ xs ++ x ∷ tail → refusal p [] xs ≡ None → blocked p (history_after [] xs) x ≡ Some refused →
     (judged_items p r ≡ xs)
-    × (text p r how ≡ lines (verdicts_after p [] xs) ++ stop_text (stop_of refused (number_after (history_after [] xs))))
+    × (text v p r how ≡ lines_after v p [] xs ++ (summary v (tally_after p xs) ++ stop_text (stop_of refused (number_after (history_after [] xs)))))
     × (status p r how ≡ stop_status (stop_of refused (number_after (history_after [] xs))))
-one_refused p r how xs x tail refused i h b =
+one_refused v p r how xs x tail refused i h b =
     let past : List Entry = history_after [] xs in
     let s : Stop = stop_of refused (number_after past) in
     let judged : judged_items p r ≡ xs =
@@ -52,27 +67,27 @@ one_refused p r how xs x tail refused i h b =
     let refusal_is : refusal p [] r.items ≡ Some s =
     ap (refusal p []) i ∙ refusal-append p [] xs (x ∷ tail) h
     ∙ ap (λ o. refuse o (number_after past) (refusal p (x ∷ past) tail)) b in
-    let both = by_parts p r how xs (AtRefusal s) judged (ap (λ o. cause_of o r.ending how) refusal_is) in
+    let both = by_parts v p r how xs (AtRefusal s) judged (ap (λ o. cause_of o r.ending how) refusal_is) in
     (judged, both.0, both.1)
 
 -- where it judges the item behind these, whatever follows
-pub one_more : (p : Profile) (r : Reading) (how : How) (xs : List Entry) (x : Entry) (tail : List Entry) →
+pub one_more : (v : View) (p : Profile) (r : Reading) (how : How) (xs : List Entry) (x : Entry) (tail : List Entry) →
     r.items ≡ xs ++ x ∷ tail → refusal p [] xs ≡ None → blocked p (history_after [] xs) x ≡ None →
-    (rest : List ℕ) × (text p r how ≡ lines (verdicts_after p [] xs) ++ (lines (verdicts_at p (history_after [] xs) x) ++ rest))
-one_more p r how xs x tail i h b =
+    (rest : List ℕ) × (text v p r how ≡ lines_after v p [] xs ++ (lines_at v p (history_after [] xs) x ++ rest))
+one_more v p r how xs x tail i h b =
     let past : List Entry = history_after [] xs in
     let more : List Entry = accepted p (x ∷ past) tail in
     let judged : judged_items p r ≡ xs ++ (x ∷ more) =
     ap (accepted p []) i ∙ accepted-append p [] xs (x ∷ tail) h
     ∙ ap (λ o. xs ++ accept o x (accepted p (x ∷ past) tail)) b in
     let c : Cause = cause_of (refusal p [] r.items) r.ending how in
-    let last : List ℕ = last_text (length (xs ++ (x ∷ more))) (length (verdicts_after p [] (xs ++ (x ∷ more)))) c in
-    let here : List Verdict = verdicts_at p past x in
-    let later : List Verdict = verdicts_after p (x ∷ past) more in (
-      lines later ++ last,
-      (by_parts p r how (xs ++ (x ∷ more)) c judged refl).0
-          ∙ ap (λ vs. lines vs ++ last) (verdicts-append p [] xs (x ∷ more))
-          ∙ ap (λ l. l ++ last) (lines-append (verdicts_after p [] xs) (here ++ later) ∙ ap (λ l. lines (verdicts_after p [] xs) ++ l) (lines-append here later))
-          ∙ append_assoc (lines (verdicts_after p [] xs)) (lines here ++ lines later) last
-          ∙ ap (λ l. lines (verdicts_after p [] xs) ++ l) (append_assoc (lines here) (lines later) last),
+    let all : List Entry = xs ++ (x ∷ more) in
+    let last : List ℕ = summary v (tally_after p all) ++ last_text v (length all) (listed v all) (length (verdicts_after p [] all)) c in
+    let here : List ℕ = lines_at v p past x in
+    let later : List ℕ = lines_after v p (x ∷ past) more in (
+      later ++ last,
+      (by_parts v p r how all c judged refl).0
+          ∙ ap (λ l. l ++ last) (lines_after-append v p [] xs (x ∷ more))
+          ∙ append_assoc (lines_after v p [] xs) (here ++ later) last
+          ∙ ap (λ l. lines_after v p [] xs ++ l) (append_assoc here later last),
     )

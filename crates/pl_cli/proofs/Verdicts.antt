@@ -5,7 +5,7 @@ use Rattle.pl_base.specs.declared.verdict.Verdict.{Verdict}
 use Rattle.pl_io.specs.Told.{plus, HasRoom, Partly}
 use Rattle.pl_report.specs.Lines.{verdict_text}
 use Rattle.pl_cli.specs.Output.{lines}
-use Rattle.pl_cli.proofs.Refusals.{less_room, part_behind}
+use Rattle.pl_cli.proofs.Written.{less_room, part_behind}
 use Rattle.pl_cli.proofs.Texts.{lines-append}
 
 -- the lines before a verdict, its own, and those behind it

@@ -2,4 +2,5 @@ pub mod Output
 pub mod Progress
 pub mod Promise
 pub mod Source
+pub mod WithEngine
 pub mod Words

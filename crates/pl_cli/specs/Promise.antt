@@ -1,6 +1,7 @@
 -- What a command promises: of all that it may come to, what it read, wrote and answers.
 -- The shelf and the sink are seen by what they tell of themselves, before and after.
 use Rattle.std.specs.Prelude.{◌≡◌, ◌≢◌, ◌≤◌, ℕ, map, List, [], ◌∷◌, ◌++◌, codes, length, Bool}
+use Rattle.std.specs.Prelude.{slice_get}
 use Rattle.std.specs.Prelude.{true, false, Option, Some, IsSome, Result, Ok, Err, bytes_eq}
 use Rattle.std.specs.Borrow.{Bor}
 use Rattle.pl_io.specs.declared.shelf.Shelf as shelf
@@ -13,10 +14,15 @@ use Rattle.pl_profile.specs.declared.error.ProfileError.{ProfileError}
 use Rattle.pl_profile.specs.declared.error.ProfileError.TheVariants.{Memory}
 use Rattle.pl_profile.specs.declared.profile.Profile.{Profile}
 use Rattle.pl_profile.specs.ProfileOf.{profile_of, usual_profile}
-use Rattle.pl_report.specs.Lines.{profile_error_text, read_fault_text, usage_text}
-use Rattle.pl_cli.specs.declared.status.TheConstants.{NO_MEMORY, PROFILE, READ_FAULT, USAGE}
-use Rattle.pl_cli.specs.declared.status.TheConstants.{WRITE_FAULT}
-use Rattle.pl_cli.specs.Output.{AtFault, Fault, cause, cut, limit, output, status_of}
+use Rattle.pl_filter.specs.Answers.{IsAnswer}
+use Rattle.pl_filter.specs.Trees.{Tree}
+use Rattle.pl_filter.specs.declared.error.FilterError.{FilterError}
+use Rattle.pl_report.specs.Lines.{filter_error_text, profile_error_text, read_fault_text}
+use Rattle.pl_report.specs.Lines.{usage_text}
+use Rattle.pl_cli.specs.declared.status.TheConstants.{FILTER, NO_MEMORY, PROFILE, READ_FAULT}
+use Rattle.pl_cli.specs.declared.status.TheConstants.{USAGE, WRITE_FAULT}
+use Rattle.pl_cli.specs.Output.{AtFault, Check, Fault, Listing, Report, View, cause, cut, limit}
+use Rattle.pl_cli.specs.Output.{output, status_of}
 
 -- ---- the words
 
@@ -28,9 +34,35 @@ texts words = map (λ word. word.now) words
 abbrev pub IsCheck : List (List ℕ) → List ℕ → List ℕ → Type 0
 IsCheck words profile capture = words ≡ codes "check" ∷ profile ∷ capture ∷ []
 
+-- `list PROFILE CAPTURE FILTER`
+abbrev pub IsList : List (List ℕ) → List ℕ → List ℕ → List ℕ → Type 0
+IsList words profile capture filter = words ≡ codes "list" ∷ profile ∷ capture ∷ filter ∷ []
+
+-- `report PROFILE CAPTURE`
+abbrev pub IsReport : List (List ℕ) → List ℕ → List ℕ → Type 0
+IsReport words profile capture = words ≡ codes "report" ∷ profile ∷ capture ∷ []
+
+-- the words ask for this view of a capture under a profile
+abbrev pub IsCommand : List (List ℕ) → View → List ℕ → List ℕ → Type 0
+IsCommand words Check profile capture = IsCheck words profile capture
+IsCommand words (Listing f) profile capture =
+    (filter : List ℕ) × IsList words profile capture filter × IsAnswer filter (Ok f)
+IsCommand words Report profile capture = IsReport words profile capture
+
+-- the words are a list whose filter has this text
+abbrev pub HasFilter : List (List ℕ) → List ℕ → Type 0
+HasFilter words filter =
+    (profile : List ℕ) × (capture : List ℕ) × IsList words profile capture filter
+
+-- there are so many words, of which the first is this
+abbrev pub Begins : List (List ℕ) → List ℕ → ℕ → Type 0
+Begins words name count = (length words ≡ count) × (slice_get words 0 ≡ Some name)
+
 -- none of the commands
-abbrev pub IsNoCommand : List (List ℕ) → Type 0
-IsNoCommand words = (profile capture : List ℕ) → IsCheck words profile capture → ⊥
+pub record IsNoCommand (words : List (List ℕ)) : Type 0 where
+  pub no_check : (profile capture : List ℕ) → IsCheck words profile capture → ⊥
+  pub no_list : (filter : List ℕ) → HasFilter words filter → ⊥
+  pub no_report : (profile capture : List ℕ) → IsReport words profile capture → ⊥
 
 -- a dash names the usual profile, and no file
 abbrev pub is_dash : List ℕ → Bool
@@ -133,32 +165,46 @@ pub record CaptureUnread {H : Type 0} (S : shelf.Ghosts H) (profile : Profile)
 -- ---- the promises
 
 -- The capture of this name is judged under a profile.
-pub data Judges {H O : Type 0} (S : shelf.Ghosts H) (T : sink.Ghosts O) (profile : Profile)
-    (capture : List ℕ) (old new : H) (out out' : O) (answer : ℕ) : Type 0 where
+pub data Judges {H O : Type 0} (S : shelf.Ghosts H) (T : sink.Ghosts O) (view : View)
+    (profile : Profile) (capture : List ℕ) (old new : H) (out out' : O) (answer : ℕ)
+    : Type 0 where
   judged : (bytes : List ℕ) → CaptureRead S capture bytes old new
-      → Answers T (output profile bytes) (status_of profile bytes) out out' answer
-      → Judges S T profile capture old new out out' answer
+      → Answers T (output view profile bytes) (status_of profile bytes) out out' answer
+      → Judges S T view profile capture old new out out' answer
   unread : (read : List ℕ) → CaptureUnread S profile capture read old new
-      → Answers T (cut profile read) READ_FAULT out out' answer
-      → Judges S T profile capture old new out out' answer
+      → Answers T (cut view profile read) READ_FAULT out out' answer
+      → Judges S T view profile capture old new out out' answer
 
--- `check PROFILE CAPTURE`: the profile first, and where it and memory can be had, the capture.
-pub data RunsCheck {H O : Type 0} (S : shelf.Ghosts H) (T : sink.Ghosts O)
+-- What a view shows of a capture: the profile first, and where it and memory can be had, the
+-- capture.
+pub data Shows {H O : Type 0} (S : shelf.Ghosts H) (T : sink.Ghosts O) (view : View)
     (profile capture : List ℕ) (old new : H) (out out' : O) (answer : ℕ) : Type 0 where
   profile_unread : ProfileUnread S profile old new
       → Answers T read_fault_text READ_FAULT out out' answer
-      → RunsCheck S T profile capture old new out out' answer
+      → Shows S T view profile capture old new out out' answer
   profile_refused : (e : ProfileError) → e ≢ Memory
       → ProfileIs S profile (Err e) old → ReadsProfile S profile old new
       → Answers T (profile_error_text (number_of e)) PROFILE out out' answer
-      → RunsCheck S T profile capture old new out out' answer
+      → Shows S T view profile capture old new out out' answer
   no_memory : ReadsProfile S profile old new
       → out' ≡ out → answer ≡ NO_MEMORY
-      → RunsCheck S T profile capture old new out out' answer
+      → Shows S T view profile capture old new out out' answer
   profile_read : (p : Profile) (between : H)
       → ProfileIs S profile (Ok p) old → ReadsProfile S profile old between
-      → Judges S T p capture between new out out' answer
-      → RunsCheck S T profile capture old new out out' answer
+      → Judges S T view p capture between new out out' answer
+      → Shows S T view profile capture old new out out' answer
+
+-- `list`: the filter first, and where it can be had, what it shows.
+pub data Lists {H O : Type 0} (S : shelf.Ghosts H) (T : sink.Ghosts O)
+    (profile capture filter : List ℕ) (old new : H) (out out' : O) (answer : ℕ) : Type 0 where
+  refused : (e : FilterError) → IsAnswer filter (Err e) → new ≡ old
+      → Answers T (filter_error_text e) FILTER out out' answer
+      → Lists S T profile capture filter old new out out' answer
+  lacking : new ≡ old → out' ≡ out → answer ≡ NO_MEMORY
+      → Lists S T profile capture filter old new out out' answer
+  listed : (f : Tree) → IsAnswer filter (Ok f)
+      → Shows S T (Listing f) profile capture old new out out' answer
+      → Lists S T profile capture filter old new out out' answer
 
 -- Whatever the words are.
 pub data Runs {H O : Type 0} (S : shelf.Ghosts H) (T : sink.Ghosts O) (words : List (List ℕ))
@@ -166,6 +212,13 @@ pub data Runs {H O : Type 0} (S : shelf.Ghosts H) (T : sink.Ghosts O) (words : L
   no_command : IsNoCommand words → new ≡ old
       → Answers T usage_text USAGE out out' answer
       → Runs S T words old new out out' answer
-  checks : (profile capture : List ℕ) → IsCheck words profile capture
-      → RunsCheck S T profile capture old new out out' answer
+  filter_refused : (filter : List ℕ) (e : FilterError) → HasFilter words filter
+      → IsAnswer filter (Err e) → new ≡ old
+      → Answers T (filter_error_text e) FILTER out out' answer
+      → Runs S T words old new out out' answer
+  no_filter : (filter : List ℕ) → HasFilter words filter → new ≡ old
+      → out' ≡ out → answer ≡ NO_MEMORY
+      → Runs S T words old new out out' answer
+  shows : (view : View) (profile capture : List ℕ) → IsCommand words view profile capture
+      → Shows S T view profile capture old new out out' answer
       → Runs S T words old new out out' answer

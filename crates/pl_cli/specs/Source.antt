@@ -1,4 +1,4 @@
--- Where the profile of a command comes from.
+-- Where the filter and the profile of a command come from.
 use Rattle.std.specs.Prelude.{◌≡◌, ◌≢◌, ℕ, ◌+◌, ◌⊎◌, List, length, Option, Some, IsSome, Result, Ok}
 use Rattle.std.specs.Prelude.{Err, if◌then◌else◌}
 use Rattle.std.specs.Option.{option_map}
@@ -11,8 +11,10 @@ use Rattle.pl_profile.specs.declared.error.ProfileError.TheVariants.{NotToml, Un
 use Rattle.pl_profile.specs.declared.error.ProfileError.TheVariants.{OutOfRange, TooLong, Memory}
 use Rattle.pl_profile.specs.declared.profile.Profile.{Profile}
 use Rattle.pl_profile.specs.ProfileOf.{longest_text, profile_of, usual_profile}
-use Rattle.pl_report.specs.Lines.{profile_error_text, read_fault_text}
-use Rattle.pl_cli.specs.declared.status.TheConstants.{NO_MEMORY, PROFILE, READ_FAULT}
+use Rattle.pl_filter.specs.declared.error.FilterError.{FilterError}
+use Rattle.pl_filter.specs.declared.error.FilterError.TheVariants as filter
+use Rattle.pl_report.specs.Lines.{filter_error_text, profile_error_text, read_fault_text}
+use Rattle.pl_cli.specs.declared.status.TheConstants.{FILTER, NO_MEMORY, PROFILE, READ_FAULT}
 use Rattle.pl_cli.specs.Promise.{Answers, ProfileIs, ProfileUnread, ReadsProfile, is_dash}
 use Rattle.pl_cli.specs.declared.profile.NoProfile.{NoProfile}
 use Rattle.pl_cli.specs.declared.profile.NoProfile.TheVariants.{Unreadable, Refused}
@@ -70,6 +72,14 @@ RefusesProfile T (Refused OutOfRange) old new answer =
     Answers T (profile_error_text 4) PROFILE old new answer
 RefusesProfile T (Refused TooLong) old new answer =
     Answers T (profile_error_text 5) PROFILE old new answer
+
+-- The line of a filter that is refused, and its status; nothing for want of memory.
+abbrev pub RefusesFilter : {O : Type 0} → sink.Ghosts O → FilterError → O → O → ℕ → Type 0
+RefusesFilter T (filter.Syntax at) old new answer =
+    Answers T (filter_error_text (filter.Syntax at)) FILTER old new answer
+RefusesFilter T (filter.TooDeep at) old new answer =
+    Answers T (filter_error_text (filter.TooDeep at)) FILTER old new answer
+RefusesFilter T filter.Memory old new answer = (new ≡ old) × (answer ≡ NO_MEMORY)
 
 abbrev pub IfUnreadable : {T : Type 0} → Result T NoProfile → Type 0 → Type 0
 IfUnreadable (Ok profile) P = Unit {0}

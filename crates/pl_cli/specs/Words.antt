@@ -1,6 +1,6 @@
 -- What `run` says in words of the profile and of the capture, where the shelf tells its files.
-use Rattle.std.specs.Prelude.{◌≡◌, ◌≢◌, ℕ, ◌<◌, ◌≤◌, ◌⊎◌, true, List, [], length, Option, Some}
-use Rattle.std.specs.Prelude.{None, IsSome, Result, Ok, Err, if◌then◌else◌}
+use Rattle.std.specs.Prelude.{◌≡◌, ◌≢◌, ℕ, ◌<◌, ◌≤◌, ◌⊎◌, true, List, [], ◌++◌, length, Option}
+use Rattle.std.specs.Prelude.{Some, None, IsSome, Result, Ok, Err, if◌then◌else◌}
 use Rattle.pl_io.specs.declared.shelf.Shelf as shelf
 use Rattle.pl_io.specs.declared.sink.Sink as sink
 use Rattle.pl_io.specs.Faults.{last_count, raised}
@@ -10,21 +10,24 @@ use Rattle.pl_profile.specs.Refusal.{number_of}
 use Rattle.pl_profile.specs.declared.error.ProfileError.{ProfileError}
 use Rattle.pl_profile.specs.declared.profile.Profile.{Profile}
 use Rattle.pl_engine.specs.Verdicts.{refusal, verdicts_after}
+use Rattle.pl_filter.specs.Answers.{IsAnswer}
+use Rattle.pl_filter.specs.declared.error.FilterError.{FilterError}
 use Rattle.pl_report.specs.Lines.{profile_error_text, read_fault_text}
 use Rattle.pl_cli.specs.declared.status.TheConstants.{BROKEN, MALFORMED, NO_MEMORY, READ_FAULT}
 use Rattle.pl_cli.specs.declared.status.TheConstants.{UNSUPPORTED, WRITE_FAULT}
-use Rattle.pl_cli.specs.Output.{AtFault, Fault, cause, cut, limit, output}
+use Rattle.pl_cli.specs.Output.{AtFault, Check, Fault, Listing, Report, View, cause, cut, limit}
+use Rattle.pl_cli.specs.Output.{output, summary, tally_after}
 use Rattle.pl_cli.specs.Progress.{ReadOf}
-use Rattle.pl_cli.specs.Promise.{IsCheck, ProfileUnread, is_dash}
+use Rattle.pl_cli.specs.Promise.{HasFilter, IsCommand, ProfileUnread, ReadsProfile, is_dash}
 use Rattle.pl_cli.specs.Source.{profile_under}
 
--- The words are `check PROFILE CAPTURE`, and the shelf tells its files: the profile is this one,
+-- The words ask for this view of a capture, and the shelf tells its files: the profile is this one,
 -- and the capture has these bytes.
-pub record Checks {H : Type 0} (S : shelf.Ghosts H) (words : List (List ℕ)) (old : H)
-    (profile : Profile) (bytes : List ℕ) : Type 0 where
+pub record Asks {H : Type 0} (S : shelf.Ghosts H) (words : List (List ℕ)) (old : H)
+    (view : View) (profile : Profile) (bytes : List ℕ) : Type 0 where
   pub profile_name : List ℕ
   pub capture_name : List ℕ
-  pub command : IsCheck words profile_name capture_name
+  pub command : IsCommand words view profile_name capture_name
   pub told : S.told old ≡ true
   pub profile_is : profile_under (S.file old) profile_name ≡ Some (Ok profile)
   pub capture_is : S.file old capture_name ≡ Some bytes
@@ -67,17 +70,17 @@ pub record CutAt {H : Type 0} (S : shelf.Ghosts H) (p : Profile)
   pub none_refused : cause p (reading read) Fault ≡ AtFault
 
 -- The text of what was read of the capture was appended; or a part of it.
-abbrev pub GivesCut : {H O : Type 0} → shelf.Ghosts H → sink.Ghosts O → Profile →
+abbrev pub GivesCut : {H O : Type 0} → shelf.Ghosts H → sink.Ghosts O → View → Profile →
     List ℕ → List ℕ → List ℕ → H → H → O → O → Type 0
-GivesCut S T p profile capture bytes old new out out' =
+GivesCut S T view p profile capture bytes old new out out' =
     (read : List ℕ) × CutAt S p profile capture bytes read old new
-    × (T.written out' ≡ plus (T.written out) (cut p read))
+    × (T.written out' ≡ plus (T.written out) (cut view p read))
 
-abbrev pub GivesPartOfCut : {H O : Type 0} → shelf.Ghosts H → sink.Ghosts O → Profile →
+abbrev pub GivesPartOfCut : {H O : Type 0} → shelf.Ghosts H → sink.Ghosts O → View → Profile →
     List ℕ → List ℕ → List ℕ → H → H → O → O → Type 0
-GivesPartOfCut S T p profile capture bytes old new out out' =
+GivesPartOfCut S T view p profile capture bytes old new out out' =
     (read : List ℕ) × CutAt S p profile capture bytes read old new
-    × GivesPart T (cut p read) out out'
+    × GivesPart T (cut view p read) out out'
 
 -- The profile couldn't be read, and the line of that alone was appended; or a part of it.
 abbrev pub GivesFault : {H O : Type 0} → shelf.Ghosts H → sink.Ghosts O →
@@ -108,9 +111,33 @@ AreThere None capture = ⊥
 AreThere (Some (Err e)) capture = Unit {0}
 AreThere (Some (Ok profile)) capture = IsSome capture
 
+-- What is written of a capture of which nothing was read: a report counts no items first.
+abbrev pub nothing_read : View → Profile → List ℕ
+nothing_read view profile = summary view (tally_after profile []) ++ read_fault_text
+
 -- What a command writes where no fault comes but that of a file that isn't there.
-abbrev pub whole_text : Option (Result Profile ProfileError) → Option (List ℕ) → List ℕ
-whole_text None capture = read_fault_text
-whole_text (Some (Err e)) capture = profile_error_text (number_of e)
-whole_text (Some (Ok profile)) None = read_fault_text
-whole_text (Some (Ok profile)) (Some bytes) = output profile bytes
+abbrev pub whole_text : View → Option (Result Profile ProfileError) → Option (List ℕ) → List ℕ
+whole_text view None capture = read_fault_text
+whole_text view (Some (Err e)) capture = profile_error_text (number_of e)
+whole_text view (Some (Ok profile)) None = nothing_read view profile
+whole_text view (Some (Ok profile)) (Some bytes) = output view profile bytes
+
+-- A list reads its filter first, for which memory was there; the other views need none for theirs.
+abbrev pub FilterIsRead : View → ℕ → Type 0
+FilterIsRead Check answer = Unit {0}
+FilterIsRead (Listing filter) answer = answer ≢ NO_MEMORY
+FilterIsRead Report answer = Unit {0}
+
+-- the words are a list whose filter is refused
+abbrev pub IsRefused : List (List ℕ) → FilterError → Type 0
+IsRefused words e = (filter : List ℕ) × HasFilter words filter × IsAnswer filter (Err e)
+
+-- Memory was wanting for the filter of a list, of which nothing was opened.
+abbrev pub LacksFilter : {H : Type 0} → List (List ℕ) → H → H → Type 0
+LacksFilter words old new = (filter : List ℕ) × HasFilter words filter × (new ≡ old)
+
+-- Or for the profile or the engine, before the capture is opened.
+abbrev pub LacksProfile : {H : Type 0} → shelf.Ghosts H → List (List ℕ) → H → H → Type 0
+LacksProfile S words old new =
+    (view : View) × (profile : List ℕ) × (capture : List ℕ)
+    × IsCommand words view profile capture × ReadsProfile S profile old new

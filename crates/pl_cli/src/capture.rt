@@ -1,4 +1,5 @@
-//! Reads a capture in pieces, judges each item as soon as it is whole and writes its verdicts.
+//! Reads a capture in pieces, judges each item as soon as it is whole and writes what a view shows
+//! of it.
 ghost use Rattle.std.specs.Prelude.{◌≡◌, ◌≢◌, ◌+◌, ◌*◌, ◌<◌, ◌≤◌, ◌^◌, ◌++◌, List, [], ℕ, Bool};
 ghost use Rattle.std.specs.Prelude.{true, false, Some, None, length, take, Option, IfOk, OnOk};
 ghost use Rattle.std.specs.Prelude.{OnErr, IsOk, IsSome};
@@ -8,22 +9,23 @@ ghost use Rattle.pl_capture.specs.Entry.{Entry};
 ghost use Rattle.pl_capture.specs.Standing.{Holding};
 ghost use Rattle.pl_engine.specs.Engine.{StandsFor};
 ghost use Rattle.pl_profile.specs.declared.profile.Profile.{Profile};
-ghost use Rattle.pl_cli.specs.Output.{limit, lines};
 ghost use Rattle.pl_cli.specs.Progress.{ItemJudged, LooksBehind, PieceJudged, ReadJudged};
-ghost use Rattle.pl_cli.specs.Progress.{ShelfCause, SoFar, Tells, is_fault, tells};
+ghost use Rattle.pl_cli.specs.Progress.{ShelfCause, SoFar, Tells, is_fault, meant, tells};
 
+use crate::item::write_item;
 use crate::judging::{Ended, Judging};
+use crate::view::View;
 use pl_base::{Found, MOST_VERDICTS, Stop};
 use pl_capture::Step;
 use pl_engine::Engine;
-use pl_io::{Failed, Shelf, Sink, write_all};
-use pl_report::verdict_line;
+use pl_io::{Failed, Shelf, Sink};
 
 /// The bytes of a capture that are judged at most.
 const MOST_BYTES: usize = 1 << 40;
 
 /// Reads and judges the open capture, piece by piece. Err where the sink failed.
 pub(crate) fn read_pieces<H: Shelf, O: Sink>(
+    view: &View<'_>,
     judging: &mut Judging,
     engine: &mut Engine,
     shelf: &mut H,
@@ -32,11 +34,13 @@ pub(crate) fn read_pieces<H: Shelf, O: Sink>(
     requires opened { H.is_open shelf.old ≡ true }
     requires place { judging.old.reader.place ≡ 0 }
     requires items { judging.old.items ≡ 0 }
+    requires listed { judging.old.listed ≡ 0 }
     requires verdicts { judging.old.verdicts ≡ 0 }
     requires engine { engine.old.items ≡ 0 }
     ensures judged { (p : Profile) →
-        SoFar p [] judging.old engine.old (tells O.Sink out.old) (tells O.Sink out.old) →
-        ReadJudged p result judging.new engine.new (tells O.Sink out.old) (tells O.Sink out.new)
+        SoFar (meant view.now) p [] judging.old engine.old
+        (tells O.Sink out.old) (tells O.Sink out.old) →
+        ReadJudged (meant view.now) p result judging.new engine.new (tells O.Sink out.old) (tells O.Sink out.new)
         (H.rest shelf.old) (H.rest shelf.new) }
     ensures opened { H.is_open shelf.new ≡ true }
     ensures opens { H.opens shelf.new ≡ H.opens shelf.old }
@@ -59,7 +63,7 @@ pub(crate) fn read_pieces<H: Shelf, O: Sink>(
             return Ok(Ended::Whole);
         }
         taken += count;
-        match judge_piece(judging, engine, &buffer[..count], out) {
+        match judge_piece(view, judging, engine, &buffer[..count], out) {
             Ok(None) => {}
             Ok(Some(stop)) => return Ok(Ended::Refused(stop)),
             Err(failed) => return Err(failed),
@@ -115,6 +119,7 @@ fn look_behind<H: Shelf>(shelf: &mut H, buffer: &mut [u8]) -> Ended
 
 /// Judges the items that become whole in a piece, up to a refusal.
 fn judge_piece<O: Sink>(
+    view: &View<'_>,
     judging: &mut Judging,
     engine: &mut Engine,
     piece: &[u8],
@@ -122,15 +127,17 @@ fn judge_piece<O: Sink>(
 ) -> Result<Option<Stop>, Failed>
     requires place { judging.old.reader.place + length piece.now < 2 ^ 58 }
     requires items { judging.old.items + length piece.now < 2 ^ 58 }
+    requires listed { judging.old.listed ≤ judging.old.items }
     requires verdicts { judging.old.verdicts ≤ judging.old.items * MOST_VERDICTS }
     requires engine { engine.old.items + length piece.now < 2 ^ 58 }
     ensures judged { (p : Profile) (before : List ℕ) (start : Tells) →
-        SoFar p before judging.old engine.old start (tells O.Sink out.old) →
-        PieceJudged p (before ++ piece.now) result judging.new engine.new
+        SoFar (meant view.now) p before judging.old engine.old start (tells O.Sink out.old) →
+        PieceJudged (meant view.now) p (before ++ piece.now) result judging.new engine.new
         start (tells O.Sink out.new) }
     ensures place { OnOk result
         (judging.new.reader.place ≤ judging.old.reader.place + length piece.now) }
     ensures items { OnOk result (judging.new.items ≤ judging.old.items + length piece.now) }
+    ensures listed { OnOk result (judging.new.listed ≤ judging.new.items) }
     ensures verdicts { OnOk result (judging.new.verdicts ≤ judging.new.items * MOST_VERDICTS) }
     ensures engine { OnOk result (engine.new.items ≤ engine.old.items + length piece.now) }
     ensures cause { HasCause (O.faults out.old) (O.faults out.new) result }
@@ -144,7 +151,7 @@ fn judge_piece<O: Sink>(
             Step::Bad(stop) => return Ok(Some(stop)),
             Step::Item { used } => {
                 place += used;
-                match judge_item(judging, engine, &mut found, out) {
+                match judge_item(view, judging, engine, &mut found, out) {
                     Ok(None) => {}
                     Ok(Some(stop)) => return Ok(Some(stop)),
                     Err(failed) => return Err(failed),
@@ -155,9 +162,10 @@ fn judge_piece<O: Sink>(
     Ok(None)
 }
 
-/// Judges the item that the reader lends, and writes its verdicts. Some where the engine refuses
-/// it. The list `found` is empty before, and again behind the lines.
+/// Judges the item that the reader lends, and writes what is shown of it. Some where the engine
+/// refuses it. The list `found` is empty before, and again behind the lines.
 fn judge_item<O: Sink>(
+    view: &View<'_>,
     judging: &mut Judging,
     engine: &mut Engine,
     found: &mut Found,
@@ -165,15 +173,17 @@ fn judge_item<O: Sink>(
 ) -> Result<Option<Stop>, Failed>
     requires holds { (x : Entry) × (judging.old.reader.phase ≡ Holding x) }
     requires items { judging.old.items < 2 ^ 58 }
+    requires listed { judging.old.listed ≤ judging.old.items }
     requires verdicts { judging.old.verdicts ≤ judging.old.items * MOST_VERDICTS }
     requires engine { engine.old.items < 2 ^ 58 }
     requires none { found.old.items ≡ [] }
     ensures judged { (past : List Entry) (x : Entry) → judging.old.reader.phase ≡ Holding x →
         StandsFor engine.old past → judging.old.items ≡ length past →
-        ItemJudged past x result judging.old judging.new engine.old engine.new
+        ItemJudged (meant view.now) past x result judging.old judging.new engine.old engine.new
         (tells O.Sink out.old) (tells O.Sink out.new) }
     ensures reader { judging.new.reader ≡ judging.old.reader }
     ensures items { judging.new.items ≤ judging.old.items + 1 }
+    ensures listed { judging.new.listed ≤ judging.new.items }
     ensures verdicts { judging.new.verdicts ≤ judging.new.items * MOST_VERDICTS }
     ensures engine { engine.new.items ≤ engine.old.items + 1 }
     ensures none { OnOk result (found.new.items ≡ []) }
@@ -184,37 +194,14 @@ fn judge_item<O: Sink>(
         None => unreachable!(),
     };
     match engine.feed_into(&item, found) {
-        Ok(()) => {
-            judging.count(found.len());
-            match write_verdicts(found, out) {
-                Ok(()) => {
-                    found.clear();
-                    Ok(None)
-                }
-                Err(failed) => Err(failed),
+        Ok(()) => match write_item(view, judging.items + 1, &item, found, out) {
+            Ok(listed) => {
+                judging.count(listed, found.len());
+                found.clear();
+                Ok(None)
             }
-        }
+            Err(failed) => Err(failed),
+        },
         Err(refused) => Ok(Some(refused.stop_at(judging.items + 1))),
     }
-}
-
-/// Writes the lines of an item's verdicts.
-fn write_verdicts<O: Sink>(found: &Found, out: &mut O) -> Result<(), Failed>
-    ensures appended { OnOk result
-        (O.written out.new ≡ plus (O.written out.old) (lines found.now.items)) }
-    ensures part { OnErr result
-        (Partly (O.written out.old) (O.written out.new) (lines found.now.items)) }
-    ensures fits { HasRoom (O.room out.old) (length (lines found.now.items)) → IsOk result }
-    ensures room_left { OnOk result ((k : ℕ) →
-        HasRoom (O.room out.old) (length (lines found.now.items) + k) →
-        HasRoom (O.room out.new) k) }
-    ensures cause { HasCause (O.faults out.old) (O.faults out.new) result }
-{
-    for verdict in found.as_slice() {
-        match write_all(out, verdict_line(verdict).as_bytes()) {
-            Ok(()) => {}
-            Err(failed) => return Err(failed),
-        }
-    }
-    Ok(())
 }

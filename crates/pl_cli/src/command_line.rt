@@ -1,23 +1,26 @@
 //! The top call: from the words of the command line to the exit status.
-ghost use Rattle.std.specs.Prelude.{◌≡◌, ◌≢◌, ◌⊎◌, ◌≤◌, List, ℕ, IsTrue, not, true, None, Some, Ok};
-ghost use Rattle.std.specs.Prelude.{Err, length};
+ghost use Rattle.std.specs.Prelude.{◌≡◌, ◌≢◌, ◌⊎◌, ◌↔◌, ◌<◌, ◌≤◌, List, ℕ, IsTrue, true, None, Some};
+ghost use Rattle.std.specs.Prelude.{Ok, Err, length};
 ghost use Rattle.pl_io.specs.Faults.{Rose};
 ghost use Rattle.pl_io.specs.Told.{HasRoom};
 ghost use Rattle.pl_profile.specs.Refusal.{number_of};
 ghost use Rattle.pl_profile.specs.declared.error.ProfileError as declared;
 ghost use Rattle.pl_profile.specs.declared.profile.Profile as named;
-ghost use Rattle.pl_report.specs.Lines.{profile_error_text, read_fault_text, usage_text};
-ghost use Rattle.pl_cli.specs.Output.{output, status_of};
-ghost use Rattle.pl_cli.specs.Promise.{Answers, IsCheck, IsNoCommand, Opens, ProfileUnread};
-ghost use Rattle.pl_cli.specs.Promise.{ReadsProfile, Runs, texts};
+ghost use Rattle.pl_filter.specs.declared.error.FilterError as filtering;
+ghost use Rattle.pl_report.specs.Lines.{filter_error_text, profile_error_text, read_fault_text};
+ghost use Rattle.pl_report.specs.Lines.{usage_text};
+ghost use Rattle.pl_cli.specs.Output.{View, output, status_of};
+ghost use Rattle.pl_cli.specs.Promise.{Answers, Begins, IsCommand, IsNoCommand, Opens};
+ghost use Rattle.pl_cli.specs.Promise.{ProfileUnread, Runs, texts};
 ghost use Rattle.pl_cli.specs.Source.{profile_under};
-ghost use Rattle.pl_cli.specs.Words.{AreThere, Checks, Gives, GivesCut, GivesFault, GivesPart};
-ghost use Rattle.pl_cli.specs.Words.{GivesPartOfCut, GivesPartOfFault, IsJudged, IsUnrisen};
-ghost use Rattle.pl_cli.specs.Words.{NoFault, OpensBoth, RunsCleanly, whole_text};
+ghost use Rattle.pl_cli.specs.Words.{AreThere, Asks, FilterIsRead, Gives, GivesCut, GivesFault};
+ghost use Rattle.pl_cli.specs.Words.{GivesPart, GivesPartOfCut, GivesPartOfFault, IsJudged};
+ghost use Rattle.pl_cli.specs.Words.{IsRefused, IsUnrisen, LacksFilter, LacksProfile, NoFault};
+ghost use Rattle.pl_cli.specs.Words.{OpensBoth, RunsCleanly, nothing_read, whole_text};
 
-use crate::checking::check;
 use crate::closing::write_last;
-use crate::status::{CLEAN, NO_MEMORY, PROFILE, READ_FAULT, USAGE, WRITE_FAULT};
+use crate::commands::{check, list, report};
+use crate::status::{CLEAN, FILTER, NO_MEMORY, PROFILE, READ_FAULT, USAGE, WRITE_FAULT};
 use pl_io::{Shelf, Sink};
 use pl_report::usage_line;
 use std::alloc::Global;
@@ -25,9 +28,10 @@ use std::alloc::Global;
 /// Does what the words of the command line say, those after the program's name, and answers the
 /// exit status.
 ///
-/// The only command as yet is `check PROFILE CAPTURE`. For every profile, every capture and every
-/// way in which its bytes are cut, what is written is exactly the lines that the rules give over
-/// the whole list of items, and then the closing line or that of the refusal.
+/// The commands are `check PROFILE CAPTURE`, `list PROFILE CAPTURE FILTER` and `report PROFILE
+/// CAPTURE`. For every profile, every capture and every way in which its bytes are cut, what is
+/// written is exactly what the command's view shows of the verdicts that the rules give over the
+/// whole list of items, and then the closing line or that of the refusal.
 pub fn run<H: Shelf, O: Sink>(alloc: Global, words: &[&str], shelf: &mut H, out: &mut O) -> u8
     // All that is promised, whatever the words are and whatever it comes to. The other clauses say
     // what that is in words of the profile and the capture.
@@ -36,113 +40,142 @@ pub fn run<H: Shelf, O: Sink>(alloc: Global, words: &[&str], shelf: &mut H, out:
 
     // 1. Where nothing failed, the lines are the output for the whole file, and so is the status. A
     // profile that is refused has its line, and words that are no command the usage line.
-    ensures exact { (p : named.Profile) (b : List ℕ) →
-        Checks H.Shelf (texts words.now) shelf.old p b → NoFault result →
-        Gives (output p b) (status_of p b) (O.written out.old) (O.written out.new) result }
-    ensures refused { (profile capture : List ℕ) → IsCheck (texts words.now) profile capture →
+    ensures exact { (view : View) (p : named.Profile) (b : List ℕ) →
+        Asks H.Shelf (texts words.now) shelf.old view p b → NoFault result →
+        Gives (output view p b) (status_of p b) (O.written out.old) (O.written out.new) result }
+    ensures refused { (view : View) (profile capture : List ℕ) →
+        IsCommand (texts words.now) view profile capture →
         H.told shelf.old ≡ true → (e : declared.ProfileError) →
         profile_under (H.file shelf.old) profile ≡ Some (Err e) → NoFault result →
         Gives (profile_error_text (number_of e)) PROFILE
         (O.written out.old) (O.written out.new) result }
+    ensures filter_line { (e : filtering.FilterError) → IsRefused (texts words.now) e →
+        result ≢ WRITE_FAULT → result ≢ NO_MEMORY →
+        Gives (filter_error_text e) FILTER (O.written out.old) (O.written out.new) result }
     ensures usage { IsNoCommand (texts words.now) →
         Answers O.Sink usage_text USAGE out.old out.new result }
 
     // 2. Status 0: the capture was read to its end, it ended with its end record, and no rule
     // breaks at any item.
-    ensures clean { (p : named.Profile) (b : List ℕ) →
-        Checks H.Shelf (texts words.now) shelf.old p b → result ≡ CLEAN → RunsCleanly p b }
+    ensures clean { (view : View) (p : named.Profile) (b : List ℕ) →
+        Asks H.Shelf (texts words.now) shelf.old view p b → result ≡ CLEAN → RunsCleanly p b }
 
     // 3. A fault of the shelf or of the sink is answered only where it was counted. What stands
     // then is the text of what was read of the capture, or `read fault` alone where the profile
     // couldn't be read; or a part of it.
     ensures read_fault { result ≡ READ_FAULT → Rose (H.faults shelf.old) (H.faults shelf.new) }
-    ensures cut_short { (p : named.Profile) (b : List ℕ)
-        (names : Checks H.Shelf (texts words.now) shelf.old p b) → result ≡ READ_FAULT →
+    ensures cut_short { (view : View) (p : named.Profile) (b : List ℕ)
+        (names : Asks H.Shelf (texts words.now) shelf.old view p b) → result ≡ READ_FAULT →
         GivesFault H.Shelf O.Sink names.profile_name shelf.old shelf.new out.old out.new
-        ⊎ GivesCut H.Shelf O.Sink p names.profile_name names.capture_name b
+        ⊎ GivesCut H.Shelf O.Sink view p names.profile_name names.capture_name b
         shelf.old shelf.new out.old out.new }
-    ensures no_profile { (profile capture : List ℕ) → IsCheck (texts words.now) profile capture →
+    ensures no_profile { (view : View) (profile capture : List ℕ) →
+        IsCommand (texts words.now) view profile capture →
         H.told shelf.old ≡ true → profile_under (H.file shelf.old) profile ≡ None →
-        ProfileUnread H.Shelf profile shelf.old shelf.new
+        FilterIsRead view result → ProfileUnread H.Shelf profile shelf.old shelf.new
         × Answers O.Sink read_fault_text READ_FAULT out.old out.new result }
-    ensures no_capture { (profile capture : List ℕ) → IsCheck (texts words.now) profile capture →
+    ensures no_capture { (view : View) (profile capture : List ℕ) →
+        IsCommand (texts words.now) view profile capture →
         H.told shelf.old ≡ true → (p : named.Profile) →
         profile_under (H.file shelf.old) profile ≡ Some (Ok p) → H.file shelf.old capture ≡ None →
-        result ≢ NO_MEMORY → Answers O.Sink read_fault_text READ_FAULT out.old out.new result }
-    ensures refused_cut { (profile capture : List ℕ) → IsCheck (texts words.now) profile capture →
+        result ≢ NO_MEMORY → (ProfileUnread H.Shelf profile shelf.old shelf.new
+        × Answers O.Sink read_fault_text READ_FAULT out.old out.new result)
+        ⊎ Answers O.Sink (nothing_read view p) READ_FAULT out.old out.new result }
+    ensures refused_cut { (view : View) (profile capture : List ℕ) →
+        IsCommand (texts words.now) view profile capture →
         H.told shelf.old ≡ true → (e : declared.ProfileError) →
         profile_under (H.file shelf.old) profile ≡ Some (Err e) → result ≡ READ_FAULT →
         GivesFault H.Shelf O.Sink profile shelf.old shelf.new out.old out.new }
     ensures write_fault { result ≡ WRITE_FAULT → Rose (O.faults out.old) (O.faults out.new) }
-    ensures part { (p : named.Profile) (b : List ℕ)
-        (names : Checks H.Shelf (texts words.now) shelf.old p b) → result ≡ WRITE_FAULT →
-        GivesPart O.Sink (output p b) out.old out.new
+    ensures part { (view : View) (p : named.Profile) (b : List ℕ)
+        (names : Asks H.Shelf (texts words.now) shelf.old view p b) → result ≡ WRITE_FAULT →
+        GivesPart O.Sink (output view p b) out.old out.new
         ⊎ (Rose (H.faults shelf.old) (H.faults shelf.new)
         × (GivesPartOfFault H.Shelf O.Sink names.profile_name shelf.old shelf.new out.old out.new
-        ⊎ GivesPartOfCut H.Shelf O.Sink p names.profile_name names.capture_name b
+        ⊎ GivesPartOfCut H.Shelf O.Sink view p names.profile_name names.capture_name b
         shelf.old shelf.new out.old out.new)) }
-    ensures refused_part { (profile capture : List ℕ) → IsCheck (texts words.now) profile capture →
+    ensures refused_part { (view : View) (profile capture : List ℕ) →
+        IsCommand (texts words.now) view profile capture →
         H.told shelf.old ≡ true → (e : declared.ProfileError) →
         profile_under (H.file shelf.old) profile ≡ Some (Err e) → result ≡ WRITE_FAULT →
         GivesPart O.Sink (profile_error_text (number_of e)) out.old out.new
         ⊎ GivesPartOfFault H.Shelf O.Sink profile shelf.old shelf.new out.old out.new }
+    ensures filter_part { (e : filtering.FilterError) → IsRefused (texts words.now) e →
+        result ≡ WRITE_FAULT → GivesPart O.Sink (filter_error_text e) out.old out.new }
     ensures shelf_kept { result ≢ READ_FAULT → result ≢ WRITE_FAULT →
         H.faults shelf.new ≡ H.faults shelf.old }
     ensures sink_kept { result ≢ WRITE_FAULT → O.faults out.new ≡ O.faults out.old }
 
     // 4. Want of memory comes before the capture is opened and writes nothing.
-    ensures unopened { result ≡ NO_MEMORY → (profile : List ℕ) × (capture : List ℕ)
-        × IsCheck (texts words.now) profile capture
-        × ReadsProfile H.Shelf profile shelf.old shelf.new }
+    ensures unopened { result ≡ NO_MEMORY → LacksFilter (texts words.now) shelf.old shelf.new
+        ⊎ LacksProfile H.Shelf (texts words.now) shelf.old shelf.new }
     ensures no_memory { result ≡ NO_MEMORY → out.new ≡ out.old }
 
     // 5. Each file is asked for at most once, the profile's first: none for words that are no
     // command, the profile's alone where it is refused, and both where the capture is judged.
     ensures none_opened { IsNoCommand (texts words.now) → shelf.new ≡ shelf.old }
-    ensures one_opened { result ≡ PROFILE → (profile : List ℕ) × (capture : List ℕ)
-        × IsCheck (texts words.now) profile capture
+    ensures filter_first { (e : filtering.FilterError) → IsRefused (texts words.now) e →
+        shelf.new ≡ shelf.old }
+    ensures one_opened { result ≡ PROFILE → (view : View) × (profile : List ℕ) × (capture : List ℕ)
+        × IsCommand (texts words.now) view profile capture
         × Opens H.Shelf profile shelf.old shelf.new × (H.is_open shelf.new ≡ true) }
-    ensures both_opened { IsJudged result → (profile : List ℕ) × (capture : List ℕ)
-        × IsCheck (texts words.now) profile capture
+    ensures both_opened { IsJudged result → (view : View) × (profile : List ℕ) × (capture : List ℕ)
+        × IsCommand (texts words.now) view profile capture
         × OpensBoth H.Shelf profile capture shelf.old shelf.new × (H.is_open shelf.new ≡ true) }
 
     // 6. Each status has its cause, whatever the shelf and the sink tell.
-    ensures status { result ≤ NO_MEMORY }
+    ensures status { (result ≤ NO_MEMORY) ⊎ (result ≡ FILTER) }
     ensures usage_only { result ≡ USAGE → IsNoCommand (texts words.now) }
+    ensures filter_only { result ≡ FILTER → (e : filtering.FilterError)
+        × IsRefused (texts words.now) e }
 
     // 7. Where no count rose and memory was there, the whole output was written.
-    ensures complete { (p : named.Profile) (b : List ℕ) →
-        Checks H.Shelf (texts words.now) shelf.old p b →
+    ensures complete { (view : View) (p : named.Profile) (b : List ℕ) →
+        Asks H.Shelf (texts words.now) shelf.old view p b →
         IsUnrisen (H.faults shelf.old) (H.faults shelf.new) →
         IsUnrisen (O.faults out.old) (O.faults out.new) → (result ≡ NO_MEMORY)
-        ⊎ Gives (output p b) (status_of p b) (O.written out.old) (O.written out.new) result }
+        ⊎ Gives (output view p b) (status_of p b) (O.written out.old) (O.written out.new) result }
 
     // 8. It makes no fault by itself: none of a sure shelf with the files that are needed, and none
     // of a sink with room for what is written.
-    ensures shelf_sure { H.sure shelf.old ≡ true → (profile capture : List ℕ) →
-        IsCheck (texts words.now) profile capture →
+    ensures shelf_sure { H.sure shelf.old ≡ true → (view : View) (profile capture : List ℕ) →
+        IsCommand (texts words.now) view profile capture →
         AreThere (profile_under (H.file shelf.old) profile) (H.file shelf.old capture) →
         H.faults shelf.new ≡ H.faults shelf.old }
-    ensures sink_room { H.sure shelf.old ≡ true → (profile capture : List ℕ) →
-        IsCheck (texts words.now) profile capture → HasRoom (O.room out.old) (length
-        (whole_text (profile_under (H.file shelf.old) profile) (H.file shelf.old capture))) →
+    ensures sink_room { H.sure shelf.old ≡ true → (view : View) (profile capture : List ℕ) →
+        IsCommand (texts words.now) view profile capture → HasRoom (O.room out.old) (length
+        (whole_text view (profile_under (H.file shelf.old) profile) (H.file shelf.old capture))) →
+        O.faults out.new ≡ O.faults out.old }
+    ensures filter_room { (e : filtering.FilterError) → IsRefused (texts words.now) e →
+        HasRoom (O.room out.old) (length (filter_error_text e)) →
         O.faults out.new ≡ O.faults out.old }
     ensures usage_room { IsNoCommand (texts words.now) →
         HasRoom (O.room out.old) (length usage_text) → O.faults out.new ≡ O.faults out.old }
 {
-    if is_check(words) {
+    run_words(alloc, words, shelf, out)
+}
+
+/// Does what the words say.
+fn run_words<H: Shelf, O: Sink>(alloc: Global, words: &[&str], shelf: &mut H, out: &mut O) -> u8
+    ensures runs { Runs H.Shelf O.Sink (texts words.now)
+        shelf.old shelf.new out.old out.new result }
+{
+    if begin(words, "check", 3) {
         check(alloc, words[1], words[2], shelf, out)
+    } else if begin(words, "list", 4) {
+        list(alloc, words[1], words[2], words[3], shelf, out)
+    } else if begin(words, "report", 3) {
+        report(alloc, words[1], words[2], shelf, out)
     } else {
         write_last(out, usage_line(), USAGE)
     }
 }
 
-/// Whether the words are `check PROFILE CAPTURE`.
-fn is_check(words: &[&str]) -> bool
-    ensures length { IsTrue result → length words.now ≡ 3 }
-    ensures check { IsTrue result → (profile : List ℕ) × (capture : List ℕ)
-        × IsCheck (texts words.now) profile capture }
-    ensures none { IsTrue (not result) → IsNoCommand (texts words.now) }
+/// Whether there are so many words, of which the first is this.
+fn begin(words: &[&str], name: &str, count: usize) -> bool
+    requires { 0 < count }
+    ensures length { IsTrue result → length words.now ≡ count }
+    ensures begin { IsTrue result ↔ Begins (texts words.now) name.now count }
 {
-    words.len() == 3 && words[0] == "check"
+    words.len() == count && words[0] == name
 }

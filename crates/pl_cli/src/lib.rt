@@ -2,14 +2,16 @@
 #![tactic(auto)]
 
 mod capture;
-mod checking;
 mod closing;
 mod command_line;
+mod commands;
+mod item;
 mod judging;
 mod profile;
 pub mod status;
+mod view;
 mod with_engine;
 
-pub use checking::check;
 pub use command_line::run;
-pub use with_engine::check_with;
+pub use commands::{check, list, report};
+pub use with_engine::{check_with, list_with, report_with};

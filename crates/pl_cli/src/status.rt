@@ -20,3 +20,5 @@ pub const READ_FAULT: u8 = 7;
 pub const WRITE_FAULT: u8 = 8;
 /// Memory was wanting.
 pub const NO_MEMORY: u8 = 9;
+/// The text of the filter is refused.
+pub const FILTER: u8 = 12;

@@ -11,6 +11,7 @@ loop-place-init g c = record {
   reader = search rules;
   items = search rules;
   engine = search rules;
+  listed = search rules;
   verdicts = search rules;
   kept = search rules;
 }
@@ -34,6 +35,7 @@ loop-place-preserved-in-End g c = record {
   reader = omega (arith, c.in-End.ensures.rises);
   items = omega arith;
   engine = omega arith;
+  listed = search rules;
   verdicts = search rules;
   kept = search rules;
 }
@@ -58,6 +60,7 @@ loop-place-preserved g c = record {
   reader = omega (arith, c.in-Item.ensures.rises, ap (λ s. s.place) c.judge_item.ensures.reader);
   items = omega (arith, c.in-Item.ensures.uses, c.judge_item.ensures.items);
   engine = omega (arith, c.in-Item.ensures.uses, c.judge_item.ensures.engine);
+  listed = c.judge_item.ensures.listed;
   verdicts = c.judge_item.ensures.verdicts;
   kept = c.in-Ok-None.ensures.cause.kept ∙ c.loop-place.invariant.kept;
 }

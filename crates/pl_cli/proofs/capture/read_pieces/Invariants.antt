@@ -1,7 +1,7 @@
 use Rattle.std.proofs.Common.{◌≡◌, ◌≤◌, ◌*◌, ◌-◌, ◌^◌, [], length, true}
 use Rattle.pl_base.specs.declared.verdict.TheConstants.{MOST_VERDICTS}
 use Rattle.pl_profile.specs.declared.profile.Profile.{Profile}
-use Rattle.pl_cli.specs.Progress.{SoFar, tells}
+use Rattle.pl_cli.specs.Progress.{SoFar, meant, tells}
 use Rattle.pl_cli.proofs.Files.{Far}
 use Rattle.pl_cli.proofs.capture.read_pieces.Given as goal
 
@@ -10,11 +10,12 @@ invariant-loop-taken g l = record {
   bound : l.taken ≤ 2 ^ 40;
   buffer : length l.buffer ≡ 4096;
   far : (p : Profile) →
-      SoFar p [] l.initial.judging l.initial.engine (tells g.O.Sink l.initial.out) (tells g.O.Sink l.initial.out) →
-      Far p l.judging l.engine (tells g.O.Sink l.initial.out) (tells g.O.Sink l.out) (g.H.Shelf.rest l.initial.shelf) (g.H.Shelf.rest l.shelf) l.taken;
+      SoFar (meant l.view) p [] l.initial.judging l.initial.engine (tells g.O.Sink l.initial.out) (tells g.O.Sink l.initial.out) →
+      Far (meant l.view) p l.judging l.engine (tells g.O.Sink l.initial.out) (tells g.O.Sink l.out) (g.H.Shelf.rest l.initial.shelf) (g.H.Shelf.rest l.shelf) l.taken;
   place : l.judging.reader.place ≤ l.taken;
   items : l.judging.items ≤ l.taken;
   engine : l.engine.items ≤ l.taken;
+  listed : l.judging.listed ≤ l.judging.items;
   verdicts : l.judging.verdicts ≤ l.judging.items * MOST_VERDICTS;
   opens : g.H.Shelf.opens l.shelf ≡ g.H.Shelf.opens l.initial.shelf;
   name : g.H.Shelf.open_name l.shelf ≡ g.H.Shelf.open_name l.initial.shelf;

@@ -1,6 +1,6 @@
 use Rattle.std.proofs.Common.{◌∙◌}
 use Rattle.pl_cli.proofs.Verdicts.{line_fits, line_lost}
-use Rattle.pl_cli.proofs.capture.write_verdicts.Goals as goal
+use Rattle.pl_cli.proofs.item.write_verdicts.Goals as goal
 
 pub returns-in-Err-clause-part : goal.returns-in-Err-clause-part
 returns-in-Err-clause-part g c =

@@ -1,7 +1,7 @@
 use Rattle.std.proofs.Common.{◌≡◌, ◌+◌, ℕ, length, take}
 use Rattle.pl_io.specs.Told.{plus, HasRoom}
 use Rattle.pl_cli.specs.Output.{lines}
-use Rattle.pl_cli.proofs.capture.write_verdicts.Given as goal
+use Rattle.pl_cli.proofs.item.write_verdicts.Given as goal
 
 abbrev pub invariant-loop-verdict : goal.invariant-loop-verdict
 invariant-loop-verdict g l = record {
