@@ -1,6 +1,6 @@
 -- In how many of the four ways a text begins.
 use Rattle.std.proofs.Common.{◌≡◌, ℕ, ◌<◌, ◌≤◌, List, [], ◌∷◌, ◌++◌, ◌⊎◌, inl, inr, length, take}
-use Rattle.std.proofs.Common.{drop, get_or, append-nil, append_assoc, arith, ap, refl, sym, ◌∙◌}
+use Rattle.std.proofs.Common.{drop, get_or, append-nil, arith, ap, refl, sym, ◌∙◌}
 use Rattle.std.proofs.Common.{subst}
 use Rattle.std.proofs.lemmas.List.{take_all}
 use Rattle.httparse.specs.Grammar.{RequestHead, ReadsRequest, HasNoRequest, NeverHasRequest}

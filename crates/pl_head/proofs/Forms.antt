@@ -5,7 +5,7 @@ use Rattle.pl_head.specs.Fields.{with_number, with_fields}
 use Rattle.pl_head.specs.Form.{is_named, values_of, number_of, form_by_number, form_by_lengths}
 use Rattle.pl_head.specs.Form.{form_by_codings, form_of}
 use Rattle.pl_head.specs.declared.form.Form.{Form}
-use Rattle.pl_head.specs.declared.form.Form.TheVariants.{Refused, Without, Length}
+use Rattle.pl_head.specs.declared.form.Form.TheVariants.{Refused, Without}
 
 -- what lengths give behind those that gave form
 abbrev with_lengths : Form → List (List ℕ) → Form

@@ -1,5 +1,5 @@
 -- How long the parts of a reply's lines are at most.
-use Rattle.std.proofs.Common.{ℕ, ◌≤◌, length, arith}
+use Rattle.std.proofs.Common.{◌≤◌, length, arith}
 use Rattle.pl_head.specs.Reply.{reason_of, media_type, allow_line}
 use Rattle.pl_head.specs.declared.status.Status.{Status}
 use Rattle.pl_head.specs.declared.status.Status.TheVariants.{Success, Created, BadRequest, NotFound}

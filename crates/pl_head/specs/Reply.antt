@@ -1,6 +1,6 @@
 -- The bytes of a reply, as RFC 9112 writes them: a status line, the fields, an empty line, the
 -- body.
-use Rattle.std.specs.Prelude.{ℕ, List, [], ◌∷◌, ◌++◌, length, codes, decimal, unwrap_or}
+use Rattle.std.specs.Prelude.{ℕ, List, [], ◌++◌, length, codes, decimal, unwrap_or}
 use Rattle.http.specs.StatusCode.{reason_phrase}
 use Rattle.pl_head.specs.declared.status.Status.{Status}
 use Rattle.pl_head.specs.declared.status.Status.TheVariants.{Success, Created, BadRequest, NotFound}

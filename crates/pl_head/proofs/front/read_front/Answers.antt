@@ -1,4 +1,4 @@
-use Rattle.std.proofs.Common.{◌≡◌, ◌<◌, ◌≤◌, length, take, ℕ, ◌+◌, ◌-◌, List, arith, rules, subst}
+use Rattle.std.proofs.Common.{◌≡◌, length, take, ◌-◌, arith, rules, subst}
 use Rattle.std.proofs.Common.{length-take-le}
 use Rattle.std.proofs.lemmas.Slice.{take-put_mid_below}
 use Rattle.httparse.specs.Grammar.{HasNoRequest}
