@@ -1,7 +1,10 @@
 -- In how many of the four ways a text begins.
-use Rattle.std.proofs.Common.{◌≡◌, ℕ, ◌<◌, ◌≤◌, List, [], ◌∷◌, ◌++◌, ◌⊎◌, inl, inr, length, take, drop, get_or, append-nil, append_assoc, arith, ap, refl, sym, ◌∙◌, subst}
+use Rattle.std.proofs.Common.{◌≡◌, ℕ, ◌<◌, ◌≤◌, List, [], ◌∷◌, ◌++◌, ◌⊎◌, inl, inr, length, take}
+use Rattle.std.proofs.Common.{drop, get_or, append-nil, arith, ap, refl, sym, ◌∙◌}
+use Rattle.std.proofs.Common.{subst}
 use Rattle.std.proofs.lemmas.List.{take_all}
-use Rattle.httparse.specs.Grammar.{RequestHead, ReadsRequest, HasNoRequest, NeverHasRequest, MayBecomeRequest, print_request}
+use Rattle.httparse.specs.Grammar.{RequestHead, ReadsRequest, HasNoRequest, NeverHasRequest}
+use Rattle.httparse.specs.Grammar.{MayBecomeRequest, print_request}
 use Rattle.httparse.proofs.GrammarLemmas.{request_unique}
 use Rattle.pl_head.specs.Front.{Front, IsFront, whole, bad, long, short, head_limit}
 
@@ -49,7 +52,8 @@ one_beginning text head short a b = absurd (
 -- no text begins in none of the four
 pub some_beginning : (text : List ℕ) → ((front : Front) → ¬ (IsFront text front)) → ⊥
 some_beginning text none =
-    let no_head : HasNoRequest (take head_limit text) = λ h rest reads. none (whole h) (rest, reads) in
+    let no_head : HasNoRequest (take head_limit text)
+    = λ h rest reads. none (whole h) (rest, reads) in
     let not_long : head_limit ≤ length text → ⊥ = λ full. none long (full, no_head) in
     let small : length text < head_limit = omega (arith, not_long) in
     let same : take head_limit text ≡ text = take_all head_limit text (omega arith) in

@@ -2,9 +2,10 @@
 use Rattle.std.proofs.Common.{◌≡◌, ℕ, List, [], ◌∷◌, ap, refl, ◌∙◌}
 use Rattle.std.specs.Prelude.{Bool, true, false, Option, Some, None, codes, if◌then◌else◌}
 use Rattle.pl_head.specs.Fields.{with_number, with_fields}
-use Rattle.pl_head.specs.Form.{is_named, values_of, number_of, form_by_number, form_by_lengths, form_by_codings, form_of}
+use Rattle.pl_head.specs.Form.{is_named, values_of, number_of, form_by_number, form_by_lengths}
+use Rattle.pl_head.specs.Form.{form_by_codings, form_of}
 use Rattle.pl_head.specs.declared.form.Form.{Form}
-use Rattle.pl_head.specs.declared.form.Form.TheVariants.{Refused, Without, Length}
+use Rattle.pl_head.specs.declared.form.Form.TheVariants.{Refused, Without}
 
 -- what lengths give behind those that gave form
 abbrev with_lengths : Form → List (List ℕ) → Form
@@ -60,7 +61,8 @@ fields_after form (field ∷ fields) = one_field
     (values_of (codes "content-length") fields)
     (λ f. fields_after f fields)
 
-pub with_all_fields : (fields : List (List ℕ × List ℕ)) → with_fields Without fields ≡ form_of fields
+pub with_all_fields : (fields : List (List ℕ × List ℕ))
+    → with_fields Without fields ≡ form_of fields
 with_all_fields fields = fields_after Without fields
     ∙ ap (form_by_codings (values_of (codes "transfer-encoding") fields))
     (one_length (values_of (codes "content-length") fields))

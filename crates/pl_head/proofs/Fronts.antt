@@ -1,8 +1,11 @@
 -- What was read of a request says how all that comes begins.
-use Rattle.std.proofs.Common.{◌≡◌, ℕ, suc, zero, ◌+◌, ◌-◌, ◌<◌, ◌≤◌, List, [], ◌∷◌, ◌++◌, length, take, append-nil, append_assoc, length-append, length-take-le, arith, ap, refl, sym, ◌∙◌, subst}
+use Rattle.std.proofs.Common.{◌≡◌, ℕ, ◌+◌, ◌-◌, ◌<◌, ◌≤◌, List, [], ◌++◌, length}
+use Rattle.std.proofs.Common.{take, append-nil, append_assoc, length-append, arith}
+use Rattle.std.proofs.Common.{ap, refl, sym, ◌∙◌, subst}
 use Rattle.std.specs.Prelude.{Option, Some, None}
-use Rattle.std.proofs.lemmas.List.{take_at, take-append-le}
-use Rattle.httparse.specs.Grammar.{RequestHead, ReadsRequest, HasNoRequest, NeverHasRequest, MayBecomeRequest}
+use Rattle.std.proofs.lemmas.List.{take_at}
+use Rattle.httparse.specs.Grammar.{RequestHead, ReadsRequest, HasNoRequest, NeverHasRequest}
+use Rattle.httparse.specs.Grammar.{MayBecomeRequest}
 use Rattle.httparse.proofs.GrammarLemmas.{ReadsRequest-append}
 use Rattle.pl_io.specs.Told.{ahead, AtEnd}
 use Rattle.pl_head.specs.Front.{head_limit, IsFront, whole, bad, long, short}
@@ -49,7 +52,8 @@ short_front read rest small end none may =
 
 -- all that comes is what was read and what is left
 split_told : (old new : Option (List ℕ)) (read text : List ℕ) →
-    old ≡ ahead read new → old ≡ Some text → (rest : List ℕ) × (new ≡ Some rest) × (read ++ rest ≡ text)
+    old ≡ ahead read new → old ≡ Some text
+    → (rest : List ℕ) × (new ≡ Some rest) × (read ++ rest ≡ text)
 split_told old None read text reads told = cc
 split_told old (Some rest) read text reads told = (rest, refl, cc)
 

@@ -1,8 +1,13 @@
 -- How long the parts of a reply's lines are at most.
-use Rattle.std.proofs.Common.{ℕ, ◌≤◌, length, arith}
+use Rattle.std.proofs.Common.{◌≤◌, length, arith}
 use Rattle.pl_head.specs.Reply.{reason_of, media_type, allow_line}
 use Rattle.pl_head.specs.declared.status.Status.{Status}
-use Rattle.pl_head.specs.declared.status.Status.TheVariants.{Success, Created, BadRequest, NotFound, MethodNotAllowed, Conflict, LengthRequired, PayloadTooLarge, UnprocessableEntity, InternalServerError, ServiceUnavailable}
+use Rattle.pl_head.specs.declared.status.Status.TheVariants.{Success, Created, BadRequest, NotFound}
+use Rattle.pl_head.specs.declared.status.Status.TheVariants.{MethodNotAllowed, Conflict}
+use Rattle.pl_head.specs.declared.status.Status.TheVariants.{LengthRequired, PayloadTooLarge}
+use Rattle.pl_head.specs.declared.status.Status.TheVariants.{UnprocessableEntity}
+use Rattle.pl_head.specs.declared.status.Status.TheVariants.{InternalServerError}
+use Rattle.pl_head.specs.declared.status.Status.TheVariants.{ServiceUnavailable}
 use Rattle.pl_head.specs.declared.status.Method.TheVariants.{Get, Put}
 use Rattle.pl_head.specs.declared.reply.Media.{Media}
 use Rattle.pl_head.specs.declared.reply.Media.TheVariants.{Json, Capture}

@@ -1,5 +1,6 @@
 -- Two pieces that are sent one after another.
-use Rattle.std.proofs.Common.{◌≡◌, ℕ, List, ◌++◌, length, length-append, append_assoc, ap, sym, subst, ◌∙◌}
+use Rattle.std.proofs.Common.{◌≡◌, ℕ, List, ◌++◌, length, length-append, append_assoc, ap, sym}
+use Rattle.std.proofs.Common.{subst, ◌∙◌}
 use Rattle.std.specs.Prelude.{Option}
 use Rattle.pl_io.specs.Told.{Lowered, Partly, plus}
 use Rattle.pl_io.proofs.Told.{plus-plus, Lowered_more}

@@ -1,8 +1,9 @@
 -- One read after another into a buffer.
-use Rattle.std.proofs.Common.{◌≡◌, ℕ, suc, zero, ◌+◌, ◌≤◌, List, [], ◌∷◌, ◌++◌, length, take, ap, arith, ◌∙◌, subst}
-use Rattle.std.specs.Prelude.{Option, Some, None}
+use Rattle.std.proofs.Common.{◌≡◌, ℕ, suc, zero, ◌+◌, ◌≤◌, List, [], ◌∷◌, ◌++◌, length, take, ap}
+use Rattle.std.proofs.Common.{arith, ◌∙◌}
+use Rattle.std.specs.Prelude.{Option}
 use Rattle.std.proofs.lemmas.List.{take-append-le}
-use Rattle.pl_io.specs.Told.{ahead, AtEnd}
+use Rattle.pl_io.specs.Told.{ahead}
 use Rattle.pl_io.proofs.Told.{ahead-ahead}
 use borrow.Rule.Slice.PartMut.{put_mid, post_of}
 

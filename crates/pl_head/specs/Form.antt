@@ -1,5 +1,6 @@
 -- What the fields of a head say of the body (RFC 9112, chapter 6).
-use Rattle.std.specs.Prelude.{ℕ, ◌+◌, ◌-◌, ◌*◌, List, [], ◌∷◌, length, map, codes, Bool, ◌&&◌, nat_lt, bytes_eq, Option, Some, None, if◌then◌else◌}
+use Rattle.std.specs.Prelude.{ℕ, ◌+◌, ◌-◌, ◌*◌, List, [], ◌∷◌, length, map, codes, Bool, ◌&&◌}
+use Rattle.std.specs.Prelude.{nat_lt, bytes_eq, Option, Some, None, if◌then◌else◌}
 use Rattle.std.specs.Char.{is_ascii_digit, to_ascii_lowercase}
 use Rattle.pl_head.specs.declared.form.Form.{Form}
 use Rattle.pl_head.specs.declared.form.Form.TheVariants.{Refused, Without, Length}

@@ -25,7 +25,8 @@ filled_of (Short filled) = filled
 -- the bytes that were read are as the answer says
 abbrev pub OpeningReads : List ℕ → List HeaderSpan → Opening → Type 0
 OpeningReads buf fields (Whole head n) =
-    (n ≤ head_limit) × IsRequestWithin (take n buf) fields head × IsRequestOf (take n buf) fields head
+    (n ≤ head_limit) × IsRequestWithin (take n buf) fields head
+    × IsRequestOf (take n buf) fields head
 OpeningReads buf fields (Bad n) = (n ≤ head_limit) × NeverHasRequest (take n buf)
 OpeningReads buf fields Long = HasNoRequest (take head_limit buf)
 OpeningReads buf fields (Short n) =

@@ -1,8 +1,14 @@
--- The bytes of a reply, as RFC 9112 writes them: a status line, the fields, an empty line, the body.
-use Rattle.std.specs.Prelude.{ℕ, List, [], ◌∷◌, ◌++◌, length, codes, decimal, unwrap_or}
+-- The bytes of a reply, as RFC 9112 writes them: a status line, the fields, an empty line, the
+-- body.
+use Rattle.std.specs.Prelude.{ℕ, List, [], ◌++◌, length, codes, decimal, unwrap_or}
 use Rattle.http.specs.StatusCode.{reason_phrase}
 use Rattle.pl_head.specs.declared.status.Status.{Status}
-use Rattle.pl_head.specs.declared.status.Status.TheVariants.{Success, Created, BadRequest, NotFound, MethodNotAllowed, Conflict, LengthRequired, PayloadTooLarge, UnprocessableEntity, InternalServerError, ServiceUnavailable}
+use Rattle.pl_head.specs.declared.status.Status.TheVariants.{Success, Created, BadRequest, NotFound}
+use Rattle.pl_head.specs.declared.status.Status.TheVariants.{MethodNotAllowed, Conflict}
+use Rattle.pl_head.specs.declared.status.Status.TheVariants.{LengthRequired, PayloadTooLarge}
+use Rattle.pl_head.specs.declared.status.Status.TheVariants.{UnprocessableEntity}
+use Rattle.pl_head.specs.declared.status.Status.TheVariants.{InternalServerError}
+use Rattle.pl_head.specs.declared.status.Status.TheVariants.{ServiceUnavailable}
 use Rattle.pl_head.specs.declared.status.Method.{Method}
 use Rattle.pl_head.specs.declared.status.Method.TheVariants.{Get, Put}
 use Rattle.pl_head.specs.declared.reply.Media.{Media}

@@ -14,3 +14,6 @@ pub use form::{Form, read_form};
 pub use front::{FIELD_ROOM, HEAD_LIMIT, HeadRoom, Opening, read_front};
 pub use reply::{Media, send_reply};
 pub use status::{Method, Status};
+
+#[cfg(test)]
+mod tests;

@@ -1,4 +1,5 @@
-use Rattle.std.proofs.Common.{◌≡◌, ◌<◌, ◌≤◌, length, take, ℕ, ◌+◌, ◌-◌, List, arith, rules, subst, length-take-le}
+use Rattle.std.proofs.Common.{◌≡◌, length, take, ◌-◌, arith, rules, subst}
+use Rattle.std.proofs.Common.{length-take-le}
 use Rattle.std.proofs.lemmas.Slice.{take-put_mid_below}
 use Rattle.httparse.specs.Grammar.{HasNoRequest}
 use Rattle.pl_io.specs.Told.{ahead}
@@ -39,7 +40,8 @@ pub returns-then-filled-buf-clause-front : goal.returns-then-filled-buf-clause-f
 returns-then-filled-buf-clause-front g c = λ text told.
     let n = c.loop-head.filled in
     long_told _ _ (take n c.loop-head.buf) c.loop-head.invariant.bytes
-    (omega (arith, length-take-le n c.loop-head.buf (omega arith))) c.in-Unfinished.ensures.0 text told
+    (omega (arith, length-take-le n c.loop-head.buf (omega arith)))
+    c.in-Unfinished.ensures.0 text told
 
 -- ---- the peer's end
 
