@@ -36,12 +36,7 @@ fn list(alloc: Global, rows: &str, filter: &str) -> Result<Outcome, Fail> {
 }
 
 /// A filter's text: so many negations are opened, then comes the rest, and so many are closed.
-fn negated(
-    alloc: Global,
-    opened: usize,
-    rest: &str,
-    closed: usize,
-) -> Result<String, AllocError> {
+fn negated(alloc: Global, opened: usize, rest: &str, closed: usize) -> Result<String, AllocError> {
     let mut text = String::new(alloc);
     for _ in 0..opened {
         text.push_str("(not ")?;
@@ -66,7 +61,7 @@ fn a_report_counts_what_a_capture_holds(rt: HostRuntime) -> Result<(), Fail> {
     )
 }
 
-/// Of the six TLPs one is nullified, one is taken and comes again, two skip numbers, and one is spoiled.
+/// Of the six TLPs one is nullified, one is taken and comes again, two skip numbers, one is spoiled.
 #[test]
 fn a_report_tells_how_each_tlp_arrived_and_which_rules_broke(rt: HostRuntime) -> Result<(), Fail> {
     let rows = "B0; 13 Up MWr n=0 nullified; 14 Up MWr n=0; 15 Up MWr n=0; 16 Up MWr n=5; \
@@ -118,11 +113,7 @@ fn a_report_of_an_absent_capture_counts_no_items(rt: HostRuntime) -> Result<(), 
     expect(&outcome, 7, "read fault")?;
     let outcome = run(rt.alloc(), &["report", "absent", "capture"], &EMPTY)?;
     expect(&outcome, 7, "read fault")?;
-    let outcome = run(
-        rt.alloc(),
-        &["list", "absent", "capture", "any"],
-        &EMPTY,
-    )?;
+    let outcome = run(rt.alloc(), &["list", "absent", "capture", "any"], &EMPTY)?;
     expect(&outcome, 7, "read fault")
 }
 
@@ -144,11 +135,7 @@ fn a_list_shows_the_items_of_its_filter_with_their_verdicts(rt: HostRuntime) -> 
 #[test]
 fn a_list_counts_the_verdicts_of_items_that_it_hides(rt: HostRuntime) -> Result<(), Fail> {
     let capture = damaged_ack(rt.alloc())?;
-    let outcome = run(
-        rt.alloc(),
-        &["list", "-", "capture", "kind=Ack"],
-        &capture,
-    )?;
+    let outcome = run(rt.alloc(), &["list", "-", "capture", "kind=Ack"], &capture)?;
     expect(
         &outcome,
         1,

@@ -1,9 +1,7 @@
 -- Judging stops: at a refusal of the reader or the engine, or at a sink that fails.
 use Rattle.std.proofs.Common.{◌≡◌, ◌++◌, ◌+◌, ◌≤◌, List, ℕ, [], ◌∷◌, ap, ◌∙◌, sym, subst, length, append_assoc, length-append, arith, Option, Some, None}
 use Rattle.pl_base.specs.declared.stop.Stop.{Stop}
-use Rattle.pl_base.specs.declared.verdict.Verdict.{Verdict}
-use Rattle.pl_io.specs.Told.{plus, HasRoom, Partly}
-use Rattle.pl_io.proofs.Told.{plus-plus}
+use Rattle.pl_io.specs.Told.{HasRoom, Partly}
 use Rattle.pl_capture.specs.Entry.{Entry}
 use Rattle.pl_capture.specs.Reading.{Reading, Ending, reading, Bad}
 use Rattle.pl_profile.specs.declared.profile.Profile.{Profile}
@@ -11,7 +9,7 @@ use Rattle.pl_engine.specs.declared.engine.Engine.{Engine}
 use Rattle.pl_engine.specs.Engine as engine
 use Rattle.pl_engine.specs.declared.refused.Refused.{Refused}
 use Rattle.pl_engine.specs.Events.{number_after}
-use Rattle.pl_engine.specs.Verdicts.{blocked, history_after, refusal, refuse, verdicts_after, verdicts_at}
+use Rattle.pl_engine.specs.Verdicts.{blocked, history_after, refusal, refuse}
 use Rattle.pl_report.specs.Lines.{stop_text}
 use Rattle.pl_engine.specs.Judged.{judged_items}
 use Rattle.pl_cli.specs.declared.judging.Judging.{Judging}

@@ -12,7 +12,7 @@ use Rattle.pl_profile.specs.declared.profile.Profile.{Profile}
 use Rattle.pl_filter.specs.declared.error.FilterError.{FilterError}
 use Rattle.pl_report.specs.Lines.{filter_error_text, profile_error_text, read_fault_text, usage_text}
 use Rattle.pl_cli.specs.Output.{View, cut, output, status_of}
-use Rattle.pl_cli.specs.Promise.{Answers, IsCommand, IsNoCommand, Opens, ProfileIs, ReadsProfile, Runs, filter_refused, is_dash, judged, no_command, no_filter, no_memory, profile_read, profile_refused, profile_unread, shows, unread}
+use Rattle.pl_cli.specs.Promise.{Answers, IsCommand, IsNoCommand, Opens, ProfileIs, Runs, filter_refused, is_dash, judged, no_command, no_filter, no_memory, profile_read, profile_refused, profile_unread, shows, unread}
 use Rattle.pl_cli.specs.Words.{Gives, GivesPart, IsJudged, IsRefused, LacksFilter, LacksProfile, OpensBoth}
 use Rattle.pl_cli.proofs.Judged.{judged_status}
 use Rattle.pl_cli.proofs.Headline.{gives, gives_part, kept_if_room, none_by, not_judged, one_refusal, opens_both, refused_filter}

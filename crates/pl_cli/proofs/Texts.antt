@@ -9,11 +9,11 @@ use Rattle.pl_capture.specs.Reading.{Reading}
 use Rattle.pl_profile.specs.declared.profile.Profile.{Profile}
 use Rattle.pl_engine.specs.declared.refused.Refused.{Refused}
 use Rattle.pl_engine.specs.Events.{number_after}
-use Rattle.pl_engine.specs.Verdicts.{accept, accepted, blocked, history_after, refusal, refuse, stop_of, verdicts_after, verdicts_at}
+use Rattle.pl_engine.specs.Verdicts.{accept, accepted, blocked, history_after, refusal, refuse, stop_of, verdicts_after}
 use Rattle.pl_report.specs.Lines.{stop_text, verdict_text}
 use Rattle.pl_engine.specs.Judged.{judged_items}
 use Rattle.pl_engine.proofs.Lists.{accepted-append, accepted_all, refusal-append}
-use Rattle.pl_cli.specs.Output.{How, Cause, AtRefusal, View, cause_of, cause_of_ending, cause_status, is_listed, last_text, lines, lines_after, lines_at, listed, status, stop_status, summary, tally_after, text, text_of}
+use Rattle.pl_cli.specs.Output.{How, Cause, AtRefusal, View, cause_of, cause_of_ending, cause_status, last_text, lines, lines_after, lines_at, listed, status, stop_status, summary, tally_after, text, text_of}
 
 pub lines-append : (a b : List Verdict) → lines (a ++ b) ≡ lines a ++ lines b
 lines-append a b = flat_map-append verdict_text a b

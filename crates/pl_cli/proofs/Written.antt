@@ -1,8 +1,8 @@
 -- Texts that are written one behind another.
-use Rattle.std.proofs.Common.{◌≡◌, ◌++◌, ◌+◌, ◌≤◌, ◌<◌, List, ℕ, zero, suc, [], ◌∷◌, refl, ap, ◌∙◌, sym, subst, length, take, drop, append_assoc, append-nil, length-append, arith, Option, Some, None, Result, Ok, Err, OnErr, slice_get}
+use Rattle.std.proofs.Common.{◌≡◌, ◌++◌, ◌+◌, ◌≤◌, ◌<◌, List, ℕ, zero, suc, [], ◌∷◌, ap, ◌∙◌, sym, subst, length, take, drop, append_assoc, append-nil, length-append, arith, Option, Some, None, Result, Ok, Err, OnErr, slice_get}
 use Rattle.std.specs.List.{concat, filter}
 use Rattle.std.proofs.lemmas.List.Sums.{count_by-le-length, length-filter}
-use Rattle.std.proofs.lemmas.List.{length-map, take_all}
+use Rattle.std.proofs.lemmas.List.{length-map}
 use Rattle.pl_base.specs.declared.tally.Tally.{Tally}
 use Rattle.pl_io.specs.Told.{plus, HasRoom, Partly}
 use Rattle.pl_io.proofs.Told.{plus-plus}

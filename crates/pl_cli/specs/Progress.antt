@@ -105,8 +105,8 @@ pub record LostAtItem (view : View) (profile : Profile) (items : List Entry) (ke
   pub part : Partly (plus old (lines_after view profile [] before)) new
       (lines_at view profile (history_after [] before) item)
 
--- The sink failed within the last lines: the engine stands for those of these items that are judged,
--- and their lines were written.
+-- The sink failed within the last lines: the engine stands for those of these items that are
+-- judged, and their lines were written.
 pub record LostAtEnd (view : View) (profile : Profile) (items : List Entry) (kept : Engine)
     (old new : Option (List ℕ)) : Type 0 where
   pub engine_stands : engine.StandsFor kept (history_after [] (accepted profile [] items))

@@ -40,7 +40,8 @@ pub(crate) fn read_pieces<H: Shelf, O: Sink>(
     ensures judged { (p : Profile) →
         SoFar (meant view.now) p [] judging.old engine.old
         (tells O.Sink out.old) (tells O.Sink out.old) →
-        ReadJudged (meant view.now) p result judging.new engine.new (tells O.Sink out.old) (tells O.Sink out.new)
+        ReadJudged (meant view.now) p result judging.new engine.new
+        (tells O.Sink out.old) (tells O.Sink out.new)
         (H.rest shelf.old) (H.rest shelf.new) }
     ensures opened { H.is_open shelf.new ≡ true }
     ensures opens { H.opens shelf.new ≡ H.opens shelf.old }

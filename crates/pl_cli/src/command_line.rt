@@ -1,6 +1,6 @@
 //! The top call: from the words of the command line to the exit status.
-ghost use Rattle.std.specs.Prelude.{◌≡◌, ◌≢◌, ◌⊎◌, ◌↔◌, ◌<◌, ◌≤◌, List, ℕ, IsTrue, true, None, Some};
-ghost use Rattle.std.specs.Prelude.{Ok, Err, length};
+ghost use Rattle.std.specs.Prelude.{◌≡◌, ◌≢◌, ◌⊎◌, ◌↔◌, ◌<◌, ◌≤◌, List, ℕ, IsTrue, true, None};
+ghost use Rattle.std.specs.Prelude.{Some, Ok, Err, length};
 ghost use Rattle.pl_io.specs.Faults.{Rose};
 ghost use Rattle.pl_io.specs.Told.{HasRoom};
 ghost use Rattle.pl_profile.specs.Refusal.{number_of};
