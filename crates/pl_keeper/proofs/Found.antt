@@ -1,6 +1,6 @@
 -- The rows of a database whose schema is ours say an archive, since the database obeys the schema.
-use Rattle.std.proofs.Common.{◌≡◌, inl, inr, List, [], ◌∷◌, map, Bool, true, false, None, codes, refl, sym, ap, subst, ◌∙◌}
-use Rattle.std.specs.Prelude.{◌&&◌, not, ℕ, IsTrue}
+use Rattle.std.proofs.Common.{◌≡◌, inl, inr, List, [], ◌∷◌, map, Bool, true, false, codes, refl, sym, ap, subst, ◌∙◌}
+use Rattle.std.specs.Prelude.{◌&&◌, not, ℕ}
 use Rattle.std.proofs.lemmas.Bool.{false≢true}
 use Rattle.std.specs.List.{AllByRecursion}
 use Rattle.std.proofs.lemmas.List.Sorted.{IsPermutation-refl}
@@ -17,7 +17,7 @@ use Rattle.sqlite.specs.Schema.{Schema}
 use Rattle.sqlite.specs.Table.{Table}
 use Rattle.sqlite.specs.Effect.{Database, IsDatabase}
 use Rattle.sqlite.specs.State.{State, IsLive}
-use Rattle.pl_keeper.specs.Archive.{Profile, Capture, empty_archive}
+use Rattle.pl_keeper.specs.Archive.{empty_archive}
 use Rattle.pl_keeper.specs.Schema.{cell, profiles_at, captures_at, no_tables, profiles_alone, both_tables}
 use Rattle.pl_keeper.specs.Rows.{AreRows, Stand, Holds, HoldsProfiles, HoldsAny, profile_row, capture_row, profile_in, capture_in, archive_in, profiles_in}
 use Rattle.pl_keeper.specs.Settled.{IsIdle, Settled}

@@ -1,5 +1,5 @@
 use Rattle.sqlite.specs.Held.{state}
-use Rattle.std.proofs.Common.{refl, sym, ap, ◌∙◌}
+use Rattle.std.proofs.Common.{ap, ◌∙◌}
 use Rattle.std.specs.Prelude.{not}
 use Rattle.pl_keeper.proofs.Found.{both_found, profiles_found, none_found}
 use Rattle.pl_keeper.proofs.database.SqliteKeeper.new.Goals as goal
