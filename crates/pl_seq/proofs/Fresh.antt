@@ -84,8 +84,14 @@ answered-fresh (Tlp number bytes body at ∷ past) whole =
     grind (arith, common_steps, answered-fresh past whole, none)
 answered-fresh (Ack number at ∷ past) whole =
     let none = fresh-begins (Ack number at) past whole in
-    grind (arith, common_steps, answered-fresh past whole, taken-fresh past whole,
-    newly-fresh past whole number, none)
+    grind (
+      arith,
+      common_steps,
+      answered-fresh past whole,
+      taken-fresh past whole,
+      newly-fresh past whole number,
+      none,
+    )
 
 pub place-same : (past : List Event) → is_torn past ≡ false → (number : ℕ) (body : Body)
     → place_after past number body ≡ fresh.place_after past number body
@@ -124,8 +130,14 @@ module _ (past : List Event) (whole : is_torn past ≡ false) where
   repeats-fresh number Nullified = refl
   repeats-fresh number Spoiled = refl
   repeats-fresh number Whole =
-      grind (arith, common_steps, place-same past whole number Whole, has-original number,
-      answered-fresh past whole, original-fresh number)
+      grind (
+        arith,
+        common_steps,
+        place-same past whole number Whole,
+        has-original number,
+        answered-fresh past whole,
+        original-fresh number,
+      )
 
   pub unacknowledged-fresh : unacknowledged past ≡ fresh.unacknowledged past
   unacknowledged-fresh =
@@ -136,11 +148,27 @@ pub verdicts-fresh : (past : List Event) → is_torn past ≡ false → (event :
 unfolding lane_verdicts fresh.verdicts
 verdicts-fresh past whole Gap = refl
 verdicts-fresh past whole (Ack number at) =
-    grind (arith, common_steps, whole, valid-fresh past whole number, taken-fresh past whole,
-    answered-fresh past whole, latest_taken-fresh past whole)
+    grind (
+      arith,
+      common_steps,
+      whole,
+      valid-fresh past whole number,
+      taken-fresh past whole,
+      answered-fresh past whole,
+      latest_taken-fresh past whole,
+    )
 verdicts-fresh past whole (Tlp number bytes body at) =
     let none = fresh-begins (Tlp number bytes body at) past whole in
-    grind (arith, common_steps, whole, place-same past whole number body,
-    repeats-fresh past whole number body, taken-fresh past whole, answered-fresh past whole,
-    latest_taken-fresh past whole, spoiled_since-fresh past whole,
-    original-fresh past whole number, none)
+    grind (
+      arith,
+      common_steps,
+      whole,
+      place-same past whole number body,
+      repeats-fresh past whole number body,
+      taken-fresh past whole,
+      answered-fresh past whole,
+      latest_taken-fresh past whole,
+      spoiled_since-fresh past whole,
+      original-fresh past whole number,
+      none,
+    )

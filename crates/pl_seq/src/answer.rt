@@ -34,6 +34,9 @@ impl Lane {
     }
 
     /// An Ack or Nak that isn't valid: S5, or where it is ahead, the beginning of a run behind it.
+    /// Apart, since few are.
+    #[cold]
+    #[inline(never)]
     #[tactic(auto, unfolding(crate::specs::Rules::lane_verdicts))]
     pub(crate) fn miss(&mut self, number: u16, at: u64, found: &mut Found)
         requires number { number < 4096 }
@@ -53,7 +56,8 @@ impl Lane {
         if self.run.is_ahead(number) {
             self.begin_run(true, Some(after(number)));
         } else {
-            add_if(found, !self.run.is_torn(), Rule::S5, at, self.latest_taken, None);
+            let judged = !self.run.is_torn();
+            add_if(found, judged, Rule::S5, at, self.latest_taken, None);
         }
     }
 }

@@ -51,7 +51,10 @@ impl Lane {
         self.retry.len() >= MOST_UNACKNOWLEDGED && self.run.is_sure()
     }
 
-    /// A TLP that is taken by a jump: a run begins with it. No rule speaks of it.
+    /// A TLP that is taken by a jump: a run begins with it. No rule speaks of it. Apart, since few
+    /// TLPs are jumps.
+    #[cold]
+    #[inline(never)]
     #[tactic(auto, unfolding(crate::specs::Rules::lane_verdicts))]
     pub(crate) fn jump(&mut self, found: &mut Found, number: u16, tlp: &[u8], at: u64)
         requires place { place_of self.old.run number Body.Whole ≡ Place.Opens }
@@ -75,6 +78,7 @@ impl Lane {
     }
 
     /// Takes in a TLP that has the next number.
+    #[inline(always)]
     fn admit(&mut self, number: u16, tlp: &[u8], at: u64)
         requires place { place_of self.old.run number Body.Whole ≡ Place.Taken }
         requires number { number < 4096 }

@@ -21,7 +21,11 @@ impl Link {
     fn stands(&mut self, rt: &impl Abort, number: u16, place: Place) {
         assert!(rt; number < 4096);
         assert_eq!(rt; self.lane.place(number, Body::Whole), place, "of {number}");
-        assert_eq!(rt; self.tlp(rt, number, 0, Body::Whole).len(), 0, "of {number}");
+        assert_eq!(rt;
+            self.tlp(rt, number, 0, Body::Whole).len(),
+            0,
+            "of {number}"
+        );
     }
 
     /// An Ack or Nak that breaks nothing.
