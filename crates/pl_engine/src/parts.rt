@@ -1,8 +1,9 @@
 //! The parts that the rules look at: each hears its events of the items, one after another.
-ghost use Rattle.std.specs.Prelude.{ℕ, ◌≡◌, ◌+◌, ◌≤◌, [], List, IfOk, OnErr};
+ghost use Rattle.std.specs.Prelude.{ℕ, ◌≡◌, ◌+◌, ◌≤◌, ◌∷◌, [], List, IfOk, OnErr, true};
 ghost use Rattle.arrayvec.specs.ArrayVec.{array_vec_len};
 ghost use Rattle.pl_capture.specs.Entry.{Entry, view as entry, IsLawful};
-ghost use Rattle.pl_seq.specs.History.{place_of};
+ghost use Rattle.pl_seq.specs.History.{is_taken};
+ghost use Rattle.pl_seq.specs.Runs.{place_of};
 ghost use Rattle.pl_engine.specs.Events.{number_after};
 ghost use Rattle.pl_engine.specs.Judges.{Arrived, IsJudged, Judges};
 ghost use Rattle.pl_engine.specs.Lanes.{lane_in};
@@ -117,8 +118,8 @@ impl Parts {
     {
         let arrived = body(item);
         let place = self.lanes.place(item, arrived);
-        if place == Place::Taken {
-            self.take(profile, item, arrived, at, found)?;
+        if place.is_taken() {
+            self.take(profile, item, arrived, place, at, found)?;
             return Ok(Arrival::Tlp(arrived, place));
         }
         self.lanes.tlp(item, arrived, at, found);
@@ -132,14 +133,16 @@ impl Parts {
         profile: &Profile,
         item: &Item,
         arrived: Body,
+        place: Place,
         at: u64,
         found: &mut Found,
     ) -> Result<(), Refused>
         requires kind { item.now.kind ≡ ItemKind.Tlp }
         requires lawful { IsLawful (entry item.now) }
         requires arrived { arrived ≡ state_of (entry item.now) }
-        requires taken { place_of (lane_in item.now.dir self.old.lanes).next
-            (sequence_number item.now.body.now) arrived ≡ Place.Taken }
+        requires place { place ≡ place_of (lane_in item.now.dir self.old.lanes).run
+            (sequence_number item.now.body.now) arrived }
+        requires taken { is_taken place ≡ true }
         requires ready { IsReady profile.now at self.old }
         requires none { found.old.items ≡ [] }
         ensures judges { (past : List Entry) → PartsStandFor profile.now self.old past →
@@ -149,7 +152,7 @@ impl Parts {
         ensures ready { IsReady profile.now (at + 1) self.new }
         ensures most { array_vec_len found.new ≤ MOST_OF_AN_ITEM }
     {
-        if self.lanes.full(item.dir) {
+        if self.lanes.is_full_for(place, item.dir) {
             return Err(Refused::Unacknowledged(profile.unacknowledged));
         }
         let packet = view(tlp_of(item.body));

@@ -5,12 +5,7 @@ use Rattle.pl_credit.specs.Credits as credit
 use Rattle.pl_credit.specs.Link.{LinkEvent}
 use Rattle.pl_pair.specs.Pairs as pair
 use Rattle.pl_pair.specs.History.{Event}
-use denote.Enum.Bare.{sameb}
-use Rattle.std.proofs.lemmas.Bool.{false≢true}
 use Rattle.pl_seq.specs.History.{place_after}
-use Rattle.pl_seq.specs.contracts.place.Place.{the_type}
-use Rattle.pl_seq.specs.declared.place.Place.{Place}
-use Rattle.pl_seq.specs.declared.place.Place.TheVariants.{Taken}
 use Rattle.pl_engine.specs.Events.{lane_events}
 use Rattle.pl_engine.specs.Packets.{sequence_number}
 use Rattle.pl_engine.proofs.Taken.{stands-lane, not-taken, not-taken-blocked, not-taken-credits}
@@ -21,15 +16,9 @@ pub returns-clause-judges : goal.returns-clause-judges
 returns-clause-judges c = λ past stands at.
     let x = entry c.args.item.now in
     let profile = c.args.profile.now in
-    let place = c.place-place.ensures.past _ (stands-lane c.args.item.now.dir _ past stands.lanes)
-    in
-    let same = c.eq.ensures in
-    let isnt = c.if-eq.false in
-    let how = ap (λ (how : Body). place_after (lane_events x.dir past) (sequence_number x.body) how)
-    c.body-arrived.ensures in
-    let dropped = not-taken past x c.requires.kind
-    (λ e. false≢true (sym isnt ∙ subst (λ (p : Place). c.eq.result ≡ sameb the_type p Taken) (place
-    ∙ how ∙ e) same)) in
+    let place = c.place-place.ensures.past _ (stands-lane c.args.item.now.dir _ past stands.lanes) in
+    let how = ap (λ (how : Body). place_after (lane_events x.dir past) (sequence_number x.body) how) c.body-arrived.ensures in
+    let dropped = not-taken past x c.requires.kind c.place-place.result (sym (place ∙ how)) (sym c.is_taken.ensures ∙ c.if-is_taken.false) in
     record {
       allowed = not-taken-blocked past x c.requires.kind profile dropped;
       verdicts = c.tlp.ensures.verdicts past stands.lanes at

@@ -11,4 +11,5 @@ invariant_of-self c =
       c.self.invariant.2,
       rise-to 0 (latest_position c.self.inside.latest_tlp) c.args.at c.self.inside.retry.tlps
           (omega (arith, latest, c.requires.rises)) c.self.invariant.3,
+      c.self.invariant.4,
     )

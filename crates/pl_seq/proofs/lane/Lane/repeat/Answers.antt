@@ -11,6 +11,7 @@ invariant_of-self c =
       c.self.invariant.0,
       omega (arith, c.self.invariant.1, latest, at, c.requires.rises),
       c.self.invariant.2,
-      rise-to 0 (latest_position c.self.inside.latest_tlp) c.whole.result.at c.self.inside.retry.tlps
-          (omega (arith, latest, at, c.requires.rises)) c.self.invariant.3,
+      rise-to 0 (latest_position c.self.inside.latest_tlp) c.whole.result.at
+          c.self.inside.retry.tlps (omega (arith, latest, at, c.requires.rises)) c.self.invariant.3,
+      c.self.invariant.4,
     )
