@@ -26,11 +26,16 @@ returns-in-Some-clause-judges c = λ past stands at.
     let profile = c.args.profile.now in
     let lane = stands-lane c.args.item.now.dir _ past stands.lanes in
     let place = place-is _ _ _ _ _ c.args.place lane c.requires.arrived (sym c.requires.place) in
-    let is : is_taken past x ≡ true = taken past x c.requires.kind c.args.place place c.requires.taken in
-    let seen : outcome c.view-packet.result ≡ view_of (tlp_of x.body) = c.view-packet.ensures.outcome ∙ ap view_of c.tlp_of.ensures.bytes in
+    let is : is_taken past x ≡ true =
+    taken past x c.requires.kind c.args.place place c.requires.taken in
+    let seen : outcome c.view-packet.result ≡ view_of (tlp_of x.body) =
+    c.view-packet.ensures.outcome ∙ ap view_of c.tlp_of.ensures.bytes in
     let room = room-is c.args.item.now.dir c.args.self.now.lanes _ _ c.requires.ready.lanes in
-    let free : has_no_slot profile past x ≡ false = slot profile past x c.args.self.now.lanes c.args.place c.is_full_for.result room place (c.is_full_for.ensures.past _ lane) c.if-is_full_for.false in
-    taken-blocked past x c.requires.kind profile _ seen is free ∙ sym (c.refusal.ensures.past _ stands.pairs) ∙ c.in-Some.is
+    let free : has_no_slot profile past x ≡ false =
+    slot profile past x c.args.self.now.lanes c.args.place c.is_full_for.result room place
+    (c.is_full_for.ensures.past _ lane) c.if-is_full_for.false in
+    taken-blocked past x c.requires.kind profile _ seen is
+    free ∙ sym (c.refusal.ensures.past _ stands.pairs) ∙ c.in-Some.is
 
 pub returns-clause-judges : goal.returns-clause-judges
 returns-clause-judges c = λ past stands at.
@@ -39,10 +44,14 @@ returns-clause-judges c = λ past stands at.
     let packet = outcome c.view-packet.result in
     let lane = stands-lane c.args.item.now.dir _ past stands.lanes in
     let place = place-is _ _ _ _ _ c.args.place lane c.requires.arrived (sym c.requires.place) in
-    let is : is_taken past x ≡ true = taken past x c.requires.kind c.args.place place c.requires.taken in
-    let seen : packet ≡ view_of (tlp_of x.body) = c.view-packet.ensures.outcome ∙ ap view_of c.tlp_of.ensures.bytes in
+    let is : is_taken past x ≡ true =
+    taken past x c.requires.kind c.args.place place c.requires.taken in
+    let seen : packet ≡ view_of (tlp_of x.body) =
+    c.view-packet.ensures.outcome ∙ ap view_of c.tlp_of.ensures.bytes in
     let room = room-is c.args.item.now.dir c.args.self.now.lanes _ _ c.requires.ready.lanes in
-    let free : has_no_slot profile past x ≡ false = slot profile past x c.args.self.now.lanes c.args.place c.is_full_for.result room place (c.is_full_for.ensures.past _ lane) c.if-is_full_for.false in
+    let free : has_no_slot profile past x ≡ false =
+    slot profile past x c.args.self.now.lanes c.args.place c.is_full_for.result room place
+    (c.is_full_for.ensures.past _ lane) c.if-is_full_for.false in
     record {
       allowed = taken-blocked past x c.requires.kind profile _ seen is
           free ∙ sym (c.refusal.ensures.past _ stands.pairs) ∙ c.in_default.is;

@@ -16,9 +16,12 @@ pub returns-clause-judges : goal.returns-clause-judges
 returns-clause-judges c = λ past stands at.
     let x = entry c.args.item.now in
     let profile = c.args.profile.now in
-    let place = c.place-place.ensures.past _ (stands-lane c.args.item.now.dir _ past stands.lanes) in
-    let how = ap (λ (how : Body). place_after (lane_events x.dir past) (sequence_number x.body) how) c.body-arrived.ensures in
-    let dropped = not-taken past x c.requires.kind c.place-place.result (sym (place ∙ how)) (sym c.is_taken.ensures ∙ c.if-is_taken.false) in
+    let place = c.place-place.ensures.past _ (stands-lane c.args.item.now.dir _ past stands.lanes)
+    in
+    let how = ap (λ (how : Body). place_after (lane_events x.dir past) (sequence_number x.body) how)
+    c.body-arrived.ensures in
+    let dropped = not-taken past x c.requires.kind c.place-place.result (sym (place ∙ how))
+    (sym c.is_taken.ensures ∙ c.if-is_taken.false) in
     record {
       allowed = not-taken-blocked past x c.requires.kind profile dropped;
       verdicts = c.tlp.ensures.verdicts past stands.lanes at
