@@ -62,8 +62,8 @@ impl Engine {
     /// # Errors
     ///
     /// Where the item would be taken and has no room among the unacknowledged TLPs of its
-    /// direction, or where it has no room among the open requests; in this order. The engine is then
-    /// unchanged.
+    /// direction, or where it has no room among the open requests; in this order. The engine is
+    /// then unchanged.
     pub fn feed(&mut self, item: &Item) -> Result<Found, Refused>
         requires lawful { IsLawful (entry item.now) }
         requires few { self.old.items < 2 ^ 59 }
