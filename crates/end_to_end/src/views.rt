@@ -1,7 +1,12 @@
 //! What `list` and `report` show of a capture.
 use crate::completions::TRANSACTIONS;
 use crate::desk::{Calls, EMPTY, Outcome, damaged_ack, run_words};
+use pl_cli::{list_with, report_with};
+use pl_engine::Engine;
+use pl_filter::parse;
+use pl_io::{MemShelf, MemSink};
 use pl_notation::Notation;
+use pl_profile::Profile;
 use std::alloc::{AllocError, Global};
 use std::test::Fail;
 
@@ -196,4 +201,32 @@ fn a_filter_may_open_32_parentheses(rt: HostRuntime) -> Result<(), Fail> {
         0,
         "item 1 up dllp Ack 1; end items 1 shown 1 verdicts 0",
     )
+}
+
+#[test]
+fn a_list_over_an_engine_that_is_there_shows_the_same(rt: HostRuntime) -> Result<(), Fail> {
+    let mut shelf = MemShelf::new(rt.alloc(), 4096, &[])?;
+    shelf.add("capture", &damaged_ack(rt.alloc())?)?;
+    let mut out = MemSink::new(rt.alloc(), 4096, 4096, &[])?;
+    let mut engine = Engine::open(rt.alloc(), Profile::usual())?;
+    let filter = parse(rt.alloc(), "kind=Ack")?;
+    let status = list_with(&mut engine, &filter, "capture", &mut shelf, &mut out);
+    let output = Vec::from_slice(rt.alloc(), out.written())?;
+    expect(
+        &Outcome { status, output },
+        1,
+        "item 1 up dllp Ack 1; end items 2 shown 1 verdicts 1",
+    )
+}
+
+#[test]
+fn a_report_over_an_engine_that_is_there_counts_the_same(rt: HostRuntime) -> Result<(), Fail> {
+    let mut shelf = MemShelf::new(rt.alloc(), 4096, &[])?;
+    shelf.add("capture", &EMPTY)?;
+    let mut out = MemSink::new(rt.alloc(), 4096, 4096, &[])?;
+    let mut engine = Engine::open(rt.alloc(), Profile::usual())?;
+    let status = report_with(&mut engine, "capture", &mut shelf, &mut out);
+    let output = Vec::from_slice(rt.alloc(), out.written())?;
+    let lines = format!(in rt.alloc(); "{NOTHING_COUNTED} end items 0 verdicts 0")?;
+    expect(&Outcome { status, output }, 0, &lines)
 }
