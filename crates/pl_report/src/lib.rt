@@ -1,9 +1,10 @@
-//! What the program writes, line by line: items, verdicts, the summary, closing lines and refusals,
-//! each by its exact bytes.
+//! What the program writes, by its exact bytes: line by line items, verdicts, the summary, closing
+//! lines and refusals, and as JSON the verdicts on a stored capture.
 //!
 //! Numbers are decimal without leading zeros, and every line ends with LF.
 #![tactic(auto)]
 
+mod as_json;
 mod closing;
 mod line;
 mod list;
@@ -11,6 +12,7 @@ mod refusal;
 mod summary;
 mod verdict;
 
+pub use as_json::verdicts_json;
 pub use closing::closing_line;
 pub use line::Line;
 pub use list::{item_line, list_closing_line};

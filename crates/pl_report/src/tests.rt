@@ -2,6 +2,8 @@
 ghost use Rattle.std.specs.Prelude.{IfSome};
 ghost use Rattle.pl_capture.specs.Entry.{IsLawful, view};
 
+mod verdicts;
+
 use crate::*;
 use pl_base::{Dir, Form, Malformed, Rule, Stop, Tally, Verdict};
 use pl_capture::{Item, ItemKind};
