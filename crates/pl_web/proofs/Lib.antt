@@ -1,0 +1,5 @@
+mod Cuts
+mod Found
+mod Levels
+mod Parts
+mod Steps

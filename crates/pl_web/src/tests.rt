@@ -1,0 +1,3 @@
+//! Paths, requests and bodies as they are worked out by hand.
+
+mod paths;
