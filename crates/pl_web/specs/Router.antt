@@ -10,7 +10,8 @@ use Rattle.pl_web.specs.declared.routes.Kind.TheVariants.{PutProfile, PutCapture
 use Rattle.pl_web.specs.declared.routes.Kind.TheVariants.{GetCapture, GetVerdicts}
 
 -- with one route more, where it could be read
-abbrev pub with_read : Kind → RowsOf (RouteOf Kind) → Result Scan InsertError → RowsOf (RouteOf Kind)
+abbrev pub with_read : Kind → RowsOf (RouteOf Kind) → Result Scan InsertError
+    → RowsOf (RouteOf Kind)
 with_read kind rows (Ok route) = placed (route.pattern, route_from route kind) rows
 with_read kind rows (Err e) = rows
 

@@ -2,9 +2,11 @@
 #![tactic(auto)]
 
 mod names;
+mod request;
 mod routes;
 
 pub use names::{is_name, segment};
+pub use request::{LONGEST_BODY, Refusal, Request, read_request};
 pub use routes::{Kind, Routes};
 
 #[cfg(test)]
