@@ -1,3 +1,4 @@
+mod Compact
 mod Cuts
 mod Found
 mod Levels

@@ -1,6 +1,7 @@
 //! What is asked of the archive over HTTP, and what it answers.
 #![tactic(auto)]
 
+pub mod bodies;
 mod names;
 mod request;
 mod routes;
