@@ -7,19 +7,16 @@ use Rattle.pl_head.specs.declared.form.Form.TheVariants.{Refused as FormRefused,
 use Rattle.pl_head.specs.declared.status.Method.{Method}
 use Rattle.pl_head.specs.declared.status.Method.TheVariants.{Get, Put}
 use Rattle.pl_web.specs.Names.{is_name}
+use Rattle.pl_web.specs.Refusals.{longest_body}
 use Rattle.pl_web.specs.Paths.{kind_of, segments_of}
 use Rattle.pl_web.specs.declared.routes.Kind.{Kind}
 use Rattle.pl_web.specs.declared.routes.Kind.TheVariants.{PutProfile, PutCapture, ListCaptures}
 use Rattle.pl_web.specs.declared.routes.Kind.TheVariants.{GetCapture, GetVerdicts}
-use Rattle.pl_web.specs.declared.request.Refusal.{Refusal}
-use Rattle.pl_web.specs.declared.request.Refusal.TheVariants.{Framing, Route, WrongMethod, Name}
-use Rattle.pl_web.specs.declared.request.Refusal.TheVariants.{NoLength, TooLong}
+use Rattle.pl_web.specs.declared.refusal.Refusal.{Refusal}
+use Rattle.pl_web.specs.declared.refusal.Refusal.TheVariants.{Framing, Route, WrongMethod, Name}
+use Rattle.pl_web.specs.declared.refusal.Refusal.TheVariants.{NoLength, TooLong}
 use Rattle.pl_web.specs.declared.request.Request.{Request}
 use Rattle.pl_web.specs.declared.request.Request.TheVariants as code
-
--- the most bytes of a body
-abbrev pub longest_body : ℕ
-longest_body = 4194304
 
 -- what is asked for: of a bench, a profile and a key, and with how many bytes
 pub data Asked : Type 0 where

@@ -3,11 +3,13 @@
 
 pub mod bodies;
 mod names;
+mod refusal;
 mod request;
 mod routes;
 
 pub use names::{is_name, segment};
-pub use request::{LONGEST_BODY, Refusal, Request, read_request};
+pub use refusal::{LONGEST_BODY, Refusal};
+pub use request::{Request, read_request};
 pub use routes::{Kind, Routes};
 
 #[cfg(test)]

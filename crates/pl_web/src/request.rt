@@ -7,11 +7,9 @@ ghost use Rattle.pl_web.specs.Requests.{asked_by, asked_in, asked_of_kind, asked
 ghost use Rattle.pl_web.specs.Requests.{length_by, method_of};
 
 use crate::names::{is_name, segment};
+use crate::refusal::{LONGEST_BODY, Refusal};
 use crate::routes::{Kind, Routes};
 use pl_head::{Form, Method};
-
-/// The most bytes of a body.
-pub const LONGEST_BODY: u64 = 4_194_304;
 
 /// What a request asks for. Each name has 1 to 64 of the characters `a` to `z`, `0` to `9`, `_` and
 /// `-`; a length is the number of bytes of the body, at most 4,194,304.
@@ -44,23 +42,6 @@ pub enum Request<'t> {
         bench: &'t str,
         key: &'t str,
     },
-}
-
-/// Why a request is refused before anything is looked up.
-#[derive(Clone, Copy, Debug, PartialEq, Eq)]
-pub enum Refusal {
-    /// The fields of its head don't say in one way how its body is framed.
-    Framing,
-    /// Its path has no route.
-    Route,
-    /// Its route has this method alone.
-    WrongMethod(Method),
-    /// A name in its path isn't one.
-    Name,
-    /// It has a body, and no length of it.
-    NoLength,
-    /// Its body is longer than 4,194,304 bytes.
-    TooLong,
 }
 
 impl Kind {

@@ -6,7 +6,7 @@ ghost use Rattle.pl_web.specs.Router.{all_routes};
 use matchit::{InsertError, Router};
 use std::alloc::{AllocError, Global};
 
-/// What a path asks for. `{bench}`, `{profile}` and `{key}` stand for a segment of at least one byte.
+/// What a path asks for. `{bench}`, `{profile}` and `{key}` stand for a segment of a byte or more.
 #[derive(Clone, Copy, Debug, PartialEq, Eq)]
 pub enum Kind {
     /// `/benches/{bench}/profiles/{profile}`: a profile is stored.

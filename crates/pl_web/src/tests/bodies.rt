@@ -1,6 +1,7 @@
 //! Bodies, byte for byte.
 
-use crate::bodies;
+use crate::{Refusal, bodies};
+use pl_head::{Method, Status};
 use std::test::Fail;
 
 #[test]
@@ -35,5 +36,35 @@ fn a_text_stands_between_quotes(rt: HostRuntime) -> Result<(), Fail> {
     let body = bodies::profile(rt.alloc(), "\"\\/\u{7f}", "\u{8}\t\n\u{c}\r\u{1f}\u{e9}")?;
     let wanted = "{\"bench\":\"\\\"\\\\/\u{7f}\",\"profile\":\"\\b\\t\\n\\f\\r\\u001f\u{e9}\"}";
     assert_eq!(rt; body.as_slice(), wanted.as_bytes());
+    Ok(())
+}
+
+#[test]
+fn each_refusal_has_its_reply(rt: HostRuntime) -> Result<(), Fail> {
+    let replies = [
+        (Refusal::Framing, Status::BadRequest, "{\"error\":\"form\"}"),
+        (Refusal::Route, Status::NotFound, "{\"error\":\"route\"}"),
+        (
+            Refusal::WrongMethod(Method::Put),
+            Status::MethodNotAllowed(Method::Put),
+            "{\"error\":\"method\"}",
+        ),
+        (Refusal::Name, Status::BadRequest, "{\"error\":\"name\"}"),
+        (
+            Refusal::NoLength,
+            Status::LengthRequired,
+            "{\"error\":\"length required\"}",
+        ),
+        (
+            Refusal::TooLong,
+            Status::PayloadTooLarge,
+            "{\"error\":\"limit\",\"limit\":4194304}",
+        ),
+    ];
+    for (refusal, status, wanted) in replies {
+        assert_eq!(rt; refusal.status(), status);
+        let body = refusal.body(rt.alloc())?;
+        assert_eq!(rt; body.as_slice(), wanted.as_bytes());
+    }
     Ok(())
 }
