@@ -1,0 +1,6 @@
+mod Compact
+mod Cuts
+mod Found
+mod Levels
+mod Parts
+mod Steps
