@@ -3,9 +3,11 @@ use Rattle.std.proofs.Common.{◌≡◌, ℕ, List, [], ◌∷◌, ◌++◌, map
 use Rattle.std.specs.Prelude.{if◌then◌else◌, bytes_eq, filter, flat_map}
 use Rattle.std.specs.List.{list_all}
 use Rattle.std.specs.List.Sorted.{IsPermutation, IsSorted}
-use Rattle.std.proofs.lemmas.List.Sorted.{IsPermutation-map}
+use Rattle.std.proofs.lemmas.List.Sorted.{IsPermutation-map, IsPermutation-trans}
+use Rattle.sqlite_trees.proofs.ListLemmas.{IsPermutation-filter}
 use Rattle.std.proofs.lemmas.Map.Text.{is_eq-slice_cmp}
 use Rattle.std.specs.Ordering.{is_eq}
+use Rattle.sqlite.specs.declared.types.Value.{Value}
 use Rattle.sqlite.specs.declared.types.Value.TheVariants.{Null, Text}
 use Rattle.sqlite.specs.Order.{Row}
 use Rattle.sqlite.specs.Tree.{Trees}
@@ -18,7 +20,7 @@ use Rattle.sqlite_sql.specs.declared.ops.CompareOp.TheVariants.{Eq}
 use Rattle.sqlite.specs.Collation.TheVariants.{Binary}
 use Rattle.sqlite_value.specs.Order.{value_cmp}
 use Rattle.sqlite_value.proofs.OrderLemmas.{value_cmp-Text}
-use Rattle.pl_keeper.specs.Rows.{AreRows}
+use Rattle.pl_keeper.specs.Rows.{AreRows, Stand}
 use Rattle.pl_keeper.proofs.Texts.{rows_where}
 
 -- the row passes WHERE, and what the answer shows of it
@@ -90,11 +92,24 @@ kept_or_not false false r x shown show rows xs same one rest = rest
 kept_or_not true false r x shown show rows xs same one rest = absurd cc
 kept_or_not false true r x shown show rows xs same one rest = absurd cc
 
--- of rows that stand for things, those that pass are the things that pass
-pub passing : {X : Type 0} (row : ℕ → X → Row) (test : Row → Bool) (is : X → Bool) (show : Row → Row) (shown : X → Row) → ((id : ℕ) (x : X) → test (row id x) ≡ is x) → ((id : ℕ) (x : X) → show (row id x) ≡ shown x)
-    → (below : ℕ) (rows : List Row) (xs : List X) → AreRows row below rows xs → map show (filter test rows) ≡ map shown (filter is xs)
-passing row test is show shown tests showing below [] [] h = refl
-passing row test is show shown tests showing below [] (x ∷ xs) h = absurd h
-passing row test is show shown tests showing below (r ∷ rows) [] h = absurd h
-passing row test is show shown tests showing below (r ∷ rows) (x ∷ xs) h =
-    kept_or_not (test r) (is x) r x shown show (filter test rows) (filter is xs) (ap test h.2 ∙ tests h.0 x) (ap show h.2 ∙ showing h.0 x) (passing row test is show shown tests showing h.0 rows xs h.3)
+-- of rows that are those of things, those that pass are the things that pass
+pub passing : {X : Type 0} (row : Value → X → Row) (test : Row → Bool) (is : X → Bool) (show : Row → Row) (shown : X → Row)
+    → ((id : Value) (x : X) → test (row id x) ≡ is x) → ((id : Value) (x : X) → show (row id x) ≡ shown x)
+    → (rows : List Row) (xs : List X) → AreRows row rows xs → map show (filter test rows) ≡ map shown (filter is xs)
+passing row test is show shown tests showing [] [] h = refl
+passing row test is show shown tests showing [] (x ∷ xs) h = absurd h
+passing row test is show shown tests showing (r ∷ rows) [] h = absurd h
+passing row test is show shown tests showing (r ∷ rows) (x ∷ xs) h =
+    kept_or_not (test r) (is x) r x shown show (filter test rows) (filter is xs)
+    (ap test h.1 ∙ tests h.0 x) (ap show h.1 ∙ showing h.0 x) (passing row test is show shown tests showing rows xs h.2)
+
+-- and those of things that stand are shown in some order
+pub passing_standing : {X : Type 0} (row : Value → X → Row) (test : Row → Bool) (is : X → Bool) (show : Row → Row) (shown : X → Row)
+    → ((id : Value) (x : X) → test (row id x) ≡ is x) → ((id : Value) (x : X) → show (row id x) ≡ shown x)
+    → (all rows : List Row) (xs : List X) → Stand row all xs → IsPermutation (map show (filter test all)) rows
+    → IsPermutation (map shown (filter is xs)) rows
+unfolding Stand
+passing_standing row test is show shown tests showing all rows xs s h =
+    IsPermutation-trans _ (map shown (filter is s.0)) rows
+    (IsPermutation-map shown _ _ (IsPermutation-filter is xs s.0 s.1))
+    (subst (λ all. IsPermutation all rows) (passing row test is show shown tests showing all s.0 s.2) h)

@@ -2,7 +2,10 @@
 use Rattle.std.proofs.Common.{◌≡◌, inl, inr, ℕ, List, [], Bool, true, false, None, Ok, Err, Result, codes, true≢false, refl, sym, ap, subst, ◌∙◌}
 use Rattle.std.specs.Prelude.{IsTrue, OnOk, OnErr, bytes_eq, if◌then◌else◌}
 use Rattle.std.specs.List.{list_any}
+use Rattle.std.proofs.lemmas.List.Sorted.{IsPermutation-refl}
+use Rattle.sqlite.specs.declared.types.Value.{Value}
 use Rattle.sqlite.specs.declared.error.Error.{Error}
+use Rattle.sqlite.specs.Order.{Row}
 use Rattle.sqlite.specs.Table.{Table}
 use Rattle.sqlite.specs.Schema.{Schema}
 use Rattle.sqlite.specs.Command.TheVariants.{CreateTable}
@@ -14,7 +17,7 @@ use Rattle.sqlite.specs.Steps.{IsEmpty}
 use Rattle.sqlite.proofs.Callers.{runs_as}
 use Rattle.pl_keeper.specs.Schema.{no_tables, profiles_alone, both_tables}
 use Rattle.pl_keeper.specs.Archive.{Archive, empty_archive}
-use Rattle.pl_keeper.specs.Rows.{Holds, HoldsProfiles, HoldsNothing, HoldsSome, HoldsAny, HoldsOnce, AreRows, profile_row, capture_row}
+use Rattle.pl_keeper.specs.Rows.{Holds, HoldsProfiles, HoldsNothing, HoldsSome, HoldsAny, HoldsOnce, Stand, profile_row, capture_row}
 use Rattle.pl_keeper.specs.Settled.{Settled}
 use Rattle.pl_keeper.proofs.Texts.{Makes, create_profiles_text, create_profiles_makes, create_captures_text, create_captures_makes}
 use Rattle.pl_keeper.proofs.Inserts.{went, same_value}
@@ -57,13 +60,17 @@ module _ (text : List ℕ) (before after : Schema) (table : Table) (makes : Make
         shown = w.shown;
       }
 
+none_stands : {X : Type 0} (row : Value → X → Row) (xs : List X) → xs ≡ [] → Stand row [] xs
+unfolding Stand
+none_stands row xs none = subst (Stand row []) (sym none) ([], IsPermutation-refl [], tt)
+
 pub profiles_made : (old new : State) (a : Archive) (r : Result ℕ Error) → Settled HoldsNothing old a → Executes create_profiles_text [] old new r → OnOk r (Settled HoldsSome new a)
 profiles_made old new a (Err e) s h = tt
 profiles_made old new a (Ok count) s h =
     let made = made_from create_profiles_text no_tables profiles_alone _ create_profiles_makes refl old new count s.has.schema h in
     settled_write HoldsSome old new a s.autocommit made.shown (inl (record {
       schema = made.schema;
-      profiles = subst (λ rows. AreRows profile_row 0 rows a.profiles) (sym made.empty) (subst (AreRows profile_row 0 []) (sym s.has.none.0) tt);
+      profiles = subst (λ rows. Stand profile_row rows a.profiles) (sym made.empty) (none_stands profile_row a.profiles s.has.none.0);
       none = s.has.none.1;
     }))
 
@@ -73,8 +80,8 @@ captures_made old new a (Ok count) s h =
     let made = made_from create_captures_text profiles_alone both_tables _ create_captures_makes refl old new count s.has.schema h in
     settled_write Holds old new a s.autocommit made.shown (record {
       schema = made.schema;
-      profiles = subst (λ rows. AreRows profile_row 0 rows a.profiles) (sym made.others.0) s.has.profiles;
-      captures = subst (λ rows. AreRows capture_row 0 rows a.captures) (sym made.empty) (subst (AreRows capture_row 0 []) (sym s.has.none) tt);
+      profiles = subst (λ rows. Stand profile_row rows a.profiles) (sym made.others.0) s.has.profiles;
+      captures = subst (λ rows. Stand capture_row rows a.captures) (sym made.empty) (none_stands capture_row a.captures s.has.none);
     })
 
 -- a statement that is refused leaves the tables as they were

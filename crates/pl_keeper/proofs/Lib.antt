@@ -3,7 +3,9 @@ pub mod Choices
 pub mod Creates
 pub mod Differences
 pub mod Firsts
+pub mod Found
 pub mod Inserts
+pub mod Keeping
 pub mod Lookups
 pub mod Sorting
 pub mod States

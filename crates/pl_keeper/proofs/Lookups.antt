@@ -1,7 +1,8 @@
 -- What the look-ups answer of the archive.
-use Rattle.std.proofs.Common.{◌≡◌, ℕ, List, [], ◌∷◌, map, ◌&&◌, true, false, Bool, refl, ap, subst, ◌∙◌}
+use Rattle.std.proofs.Common.{◌≡◌, ℕ, List, [], ◌∷◌, map, ◌&&◌, true, false, Bool, refl, ap, ◌∙◌}
 use Rattle.std.specs.Prelude.{bytes_eq, filter}
 use Rattle.std.specs.List.Sorted.{IsPermutation}
+use Rattle.sqlite.specs.declared.types.Value.{Value}
 use Rattle.sqlite.specs.declared.types.Value.TheVariants.{Text}
 use Rattle.sqlite.specs.Order.{Row}
 use Rattle.sqlite.specs.Program.{overlay}
@@ -16,12 +17,12 @@ use Rattle.sqlite.specs.State.{State, Shown}
 use Rattle.sqlite.proofs.Callers.{reads_as}
 use Rattle.pl_keeper.specs.Archive.{Archive, is_profile, is_capture, profiles_of, captures_of}
 use Rattle.pl_keeper.specs.Schema.{both_tables}
-use Rattle.pl_keeper.specs.Rows.{Holds, AreRows, profile_row, capture_row}
+use Rattle.pl_keeper.specs.Rows.{Holds, Stand, profile_row, capture_row}
 use Rattle.pl_keeper.specs.Settled.{body_of, name_of, owner_and_body, key_of, listed_as, line_in}
 use Rattle.pl_keeper.specs.Listing.{Ascends}
 use Rattle.pl_keeper.proofs.Texts.{Asks, rows_where, of_bench, of_both, by_label, profile_text, profile_asks, names_text, names_asks, capture_text, capture_asks, keys_text, keys_asks, listing_text, listing_asks}
 use Rattle.pl_keeper.proofs.Sorting.{ascends}
-use Rattle.pl_keeper.proofs.Answers.{Ordered, answers, shows_each, passing, texts_equal, passes, shows}
+use Rattle.pl_keeper.proofs.Answers.{Ordered, answers, shows_each, passing_standing, texts_equal, passes, shows}
 
 and_true : (b : Bool) → (b && true) ≡ b
 and_true true = refl
@@ -41,12 +42,14 @@ module _ (text : List ℕ) (tree : ℕ) (tests project : List Term) (order : Lis
   ordered old new params rows has h =
       answers tree tests project order params (overlay old.now.trees []) rows (reads_as text params old new both_tables has _ asks.0 asks.2 asks.1 rows h).answer
 
-  module _ {X : Type 0} (row : ℕ → X → Row) (is : X → Bool) (shown : X → Row) (params : Row) (tested : (id : ℕ) (x : X) → passes params tests (row id x) ≡ is x) (showing : (id : ℕ) (x : X) → shows params project (row id x) ≡ shown x) where
+  module _ {X : Type 0} (row : Value → X → Row) (is : X → Bool) (shown : X → Row) (params : Row)
+      (tested : (id : Value) (x : X) → passes params tests (row id x) ≡ is x)
+      (showing : (id : Value) (x : X) → shows params project (row id x) ≡ shown x) where
     -- it shows each thing that passes once
-    pub finds : (old new : State) (xs : List X) (rows : List Row) → old.now.schema ≡ both_tables → AreRows row 0 (overlay old.now.trees [] tree) xs → Shown text params old new rows
+    pub finds : (old new : State) (xs : List X) (rows : List Row) → old.now.schema ≡ both_tables → Stand row (overlay old.now.trees [] tree) xs → Shown text params old new rows
         → IsPermutation (map shown (filter is xs)) rows
     finds old new xs rows has stand h =
-        subst (λ all. IsPermutation all rows) (passing row (passes params tests) is (shows params project) shown tested showing 0 _ xs stand)
+        passing_standing row (passes params tests) is (shows params project) shown tested showing _ rows xs stand
         (shows_each tree tests project order params _ rows (ordered old new params rows has h))
 
 module _ (old new : State) (a : Archive) (holds : Holds old.now a) (bench : List ℕ) (rows : List Row) where
@@ -67,4 +70,4 @@ module _ (old new : State) (a : Archive) (holds : Holds old.now a) (bench : List
 
   -- in ascending order of key
   pub listed_ascends : Shown listing_text (Text bench ∷ []) old new rows → Ascends (map line_in rows)
-  listed_ascends h = ascends (Text bench ∷ []) 0 (old.now.trees 2) rows a.captures holds.captures (ordered listing_text 2 of_bench _ by_label _ listing_asks old new (Text bench ∷ []) rows holds.schema h)
+  listed_ascends h = ascends (Text bench ∷ []) (old.now.trees 2) rows a.captures holds.captures (ordered listing_text 2 of_bench _ by_label _ listing_asks old new (Text bench ∷ []) rows holds.schema h)

@@ -15,7 +15,7 @@ use Rattle.sqlite_value.specs.Order.{bytes}
 use Rattle.sqlite_value.proofs.OrderLemmas.{value_cmp-Text, then-Equal}
 use Rattle.pl_keeper.specs.Archive.{Capture}
 use Rattle.pl_keeper.specs.Listing.{Line, Lists, line_of, Ascends}
-use Rattle.pl_keeper.specs.Rows.{AreRows, capture_row}
+use Rattle.pl_keeper.specs.Rows.{AreRows, Stand, capture_row}
 use Rattle.pl_keeper.specs.Settled.{listed_as, line_in}
 use Rattle.pl_keeper.proofs.Texts.{rows_where, of_bench, by_label}
 use Rattle.pl_keeper.proofs.Answers.{Ordered, sorted_and_shown, passes}
@@ -39,15 +39,15 @@ record SortsByKey (o : Output) : Type 0 where
   sorted_by : o.0 ≡ Text key ∷ []
   shows : column o.1 0 ≡ Text key
 
-each_sorts : (params : Row) (below : ℕ) (rows : List Row) (cs : List Capture) → AreRows capture_row below rows cs
+each_sorts : (params : Row) (rows : List Row) (cs : List Capture) → AreRows capture_row rows cs
     → All SortsByKey (map (sorted_and_shown 2 of_bench projected by_label params) (filter (passes params of_bench) rows))
-each_sorts params below [] [] h = All-nil SortsByKey
-each_sorts params below [] (c ∷ cs) h = absurd h
-each_sorts params below (r ∷ rows) [] h = absurd h
-each_sorts params below (r ∷ rows) (c ∷ cs) h =
+each_sorts params [] [] h = All-nil SortsByKey
+each_sorts params [] (c ∷ cs) h = absurd h
+each_sorts params (r ∷ rows) [] h = absurd h
+each_sorts params (r ∷ rows) (c ∷ cs) h =
     kept_or_not (passes params of_bench r) r (filter (passes params of_bench) rows)
-    (subst (λ row. SortsByKey (sorted_and_shown 2 of_bench projected by_label params row)) (sym h.2) (record { key = c.key; sorted_by = refl; shows = refl }))
-    (each_sorts params h.0 rows cs h.3)
+    (subst (λ row. SortsByKey (sorted_and_shown 2 of_bench projected by_label params row)) (sym h.1) (record { key = c.key; sorted_by = refl; shows = refl }))
+    (each_sorts params rows cs h.2)
   where
     kept_or_not : (b : Bool) (row : Row) (more : List Row) → SortsByKey (sorted_and_shown 2 of_bench projected by_label params row)
         → All SortsByKey (map (sorted_and_shown 2 of_bench projected by_label params) more) → All SortsByKey (map (sorted_and_shown 2 of_bench projected by_label params) (cond b (row ∷ more) more))
@@ -66,12 +66,13 @@ line_of_output : (os : List Output) → map (λ (x : Output). line_in x.1) os �
 line_of_output [] = refl
 line_of_output (o ∷ os) = ap (λ more. line_in o.1 ∷ more) (line_of_output os)
 
-pub ascends : (params : Row) (below : ℕ) (all rows : List Row) (cs : List Capture) → AreRows capture_row below all cs → Ordered 2 of_bench projected by_label params all rows
+pub ascends : (params : Row) (all rows : List Row) (cs : List Capture) → Stand capture_row all cs → Ordered 2 of_bench projected by_label params all rows
     → Ascends (map line_in rows)
-ascends params below all rows cs stand o =
+unfolding Stand
+ascends params all rows cs stand o =
     let sorted : Ascends (map (λ (x : Output). line_in x.1) o.ordered) =
     sorted-map (λ (x y : Output). is_lt (output_cmp (rows_where 2 of_bench projected by_label) x y)) (λ (a b : Line). is_lt (slice_cmp nat_cmp a.key b.key)) (λ (x : Output). line_in x.1) SortsByKey (same_rank 2)
-    o.ordered (All-permutation SortsByKey _ o.ordered o.same (each_sorts params below all cs stand)) o.sorted in
+    o.ordered (All-permutation SortsByKey _ o.ordered o.same (each_sorts params all stand.0 stand.2)) o.sorted in
     subst Ascends (line_of_output o.ordered ∙ sym (ap (map line_in) o.shown)) sorted
 
 -- the lines of the rows of captures are the lines of the captures

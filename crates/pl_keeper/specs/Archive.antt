@@ -1,5 +1,5 @@
--- The archive: profiles by bench and name, captures by bench and key. Each is the list of its rows, in the order in
--- which they were stored, and is looked up as a finite map.
+-- The archive: profiles by bench and name, captures by bench and key. Each is the list of its rows,
+-- in the order in which they were stored, and is looked up as a finite map.
 use Rattle.std.specs.Prelude.{ℕ, Bool, ◌&&◌, List, [], ◌∷◌, ◌++◌, filter, Option, bytes_eq}
 use Rattle.std.specs.List.{find}
 

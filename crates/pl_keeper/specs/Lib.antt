@@ -1,4 +1,5 @@
 pub mod Archive
+pub mod Causes
 pub mod Counts
 pub mod Listing
 pub mod Puts

@@ -13,7 +13,14 @@ use Rattle.sqlite_schema.specs.declared.schema.Action.TheVariants.{NoAction}
 
 -- a column that is NOT NULL, of a STRICT table
 abbrev pub cell : List ℕ → Kind → Column
-cell name kind = record { name = name; kind = kind; is_strict = true; not_null = true; default = Null; collation = Binary }
+cell name kind = record {
+  name = name;
+  kind = kind;
+  is_strict = true;
+  not_null = true;
+  default = Null;
+  collation = Binary;
+}
 
 -- a STRICT table whose primary key is its first two columns
 abbrev pub keyed_by_two : List ℕ → ℕ → List Column → List Reference → Table
@@ -34,11 +41,19 @@ keyed_by_two name tree columns references = record {
 
 -- the index of that key
 abbrev pub index_of_key : List ℕ → ℕ → ℕ → Index
-index_of_key name tree table = record { name = name; tree = tree; table = table; columns = 1 ∷ 2 ∷ []; order = record { digits = 0 }; is_unique = true }
+index_of_key name tree table = record {
+  name = name;
+  tree = tree;
+  table = table;
+  columns = 1 ∷ 2 ∷ [];
+  order = record { digits = 0 };
+  is_unique = true;
+}
 
 abbrev pub profiles_at : ℕ → Table
 profiles_at tree =
-    keyed_by_two (codes "profiles") tree (cell (codes "bench") Text ∷ cell (codes "name") Text ∷ cell (codes "body") Blob ∷ []) []
+    keyed_by_two (codes "profiles") tree
+    (cell (codes "bench") Text ∷ cell (codes "name") Text ∷ cell (codes "body") Blob ∷ []) []
 
 -- (bench, profile) is the key of a profile
 abbrev pub to_profile : Reference
@@ -54,7 +69,8 @@ to_profile = record {
 abbrev pub captures_at : ℕ → Table
 captures_at tree =
     keyed_by_two (codes "captures") tree
-    (cell (codes "bench") Text ∷ cell (codes "label") Text ∷ cell (codes "profile") Text ∷ cell (codes "body") Blob ∷ [])
+    (cell (codes "bench") Text ∷ cell (codes "label") Text ∷ cell (codes "profile") Text
+    ∷ cell (codes "body") Blob ∷ [])
     (to_profile ∷ [])
 
 -- no table yet, the profiles alone, and both
@@ -71,6 +87,7 @@ profiles_alone = record {
 abbrev pub both_tables : Schema
 both_tables = record {
   tables = profiles_at 0 ∷ captures_at 2 ∷ [];
-  indexes = index_of_key (codes "sqlite_autoindex_profiles_1") 1 0 ∷ index_of_key (codes "sqlite_autoindex_captures_1") 3 2 ∷ [];
+  indexes = index_of_key (codes "sqlite_autoindex_profiles_1") 1 0
+      ∷ index_of_key (codes "sqlite_autoindex_captures_1") 3 2 ∷ [];
   views = [];
 }

@@ -20,6 +20,11 @@ pub record Continues (old new : State) : Type 0 where
   pub clean : doubt old.is_clean ≤ doubt new.is_clean
   pub was_open : HasCleanDisk new → IsTrue new.is_open → IsTrue old.is_open
 
+-- the database is open with no transaction
+pub record IsIdle (s : State) : Type 0 where
+  pub is_open : IsTrue s.is_open
+  pub autocommit : s.in_transaction ≡ false
+
 -- the database is open with no transaction, and what was last committed holds the archive
 pub record Settled (Has : Database → Archive → Type 0) (s : State) (a : Archive) : Type 0 where
   pub is_open : IsTrue s.is_open
@@ -51,4 +56,8 @@ listed_as c = Text c.key ∷ Text c.profile ∷ Blob c.bytes ∷ []
 
 -- the line of such a row
 abbrev pub line_in : Row → Line
-line_in r = record { key = bytes (column r 0); profile = bytes (column r 1); length = length (bytes (column r 2)) }
+line_in r = record {
+  key = bytes (column r 0);
+  profile = bytes (column r 1);
+  length = length (bytes (column r 2));
+}

@@ -1,11 +1,15 @@
 //! The archive in a database.
-ghost use Rattle.std.specs.Prelude.{◌≡◌, ◌≤◌, false, true, length, option_map, IfOk, IfSome, OnOk, OnErr};
+ghost use Rattle.std.specs.Prelude.{◌≡◌, ◌≤◌, false, true, length, option_map, IfOk, IfSome, OnOk};
+ghost use Rattle.std.specs.Prelude.{OnErr};
 ghost use Rattle.sqlite.specs.Held.{state};
-ghost use Rattle.pl_keeper.specs.Archive.{Archive, empty_archive, longest_body, profile_at, capture_at, captures_of};
-ghost use Rattle.pl_keeper.specs.Puts.{put_of_profile, put_of_capture, after_profile, after_capture};
+ghost use Rattle.pl_keeper.specs.Archive.{Archive, empty_archive, longest_body, profile_at};
+ghost use Rattle.pl_keeper.specs.Archive.{capture_at, captures_of};
+ghost use Rattle.pl_keeper.specs.Puts.{put_of_profile, put_of_capture, after_profile};
+ghost use Rattle.pl_keeper.specs.Puts.{after_capture};
 ghost use Rattle.pl_keeper.specs.Listing.{found_of, Lists, Ascends};
-ghost use Rattle.pl_keeper.specs.Rows.{HoldsAny, HoldsOnce};
-ghost use Rattle.pl_keeper.specs.Settled.{Lives, Continues, Settled};
+ghost use Rattle.pl_keeper.specs.Rows.{HoldsAny, HoldsOnce, archive_in, profiles_in};
+ghost use Rattle.pl_keeper.specs.Schema.{no_tables, profiles_alone, both_tables};
+ghost use Rattle.pl_keeper.specs.Settled.{Lives, Continues, IsIdle, Settled};
 ghost use Rattle.pl_keeper.specs.Counts.{IsCounted};
 ghost use Rattle.std.proofs.lemmas.Bool.{false≢true};
 
@@ -26,8 +30,8 @@ mod puts;
 mod statements;
 mod tables;
 
-/// The archive in the two tables of a database. A call makes the tables where they are absent and no call of this
-/// keeper has seen to them. It is never sure.
+/// The archive in the two tables of a database. A call makes the tables where they are absent and
+/// no call of this keeper has seen to them. It is never sure.
 #[derive(Drop)]
 pub struct SqliteKeeper<S: Alter> {
     db: Connection<S>,
@@ -38,10 +42,24 @@ pub struct SqliteKeeper<S: Alter> {
 
 impl<S: Alter> SqliteKeeper<S> {
     /// A keeper over this connection, with no fault. It asks the database nothing.
+    ///
+    /// Of a connection that is open with no transaction, and whose schema is exactly our two
+    /// tables, or that of the profiles, or empty, it tells what the rows say that are there.
     pub fn new(db: Connection<S>) -> SqliteKeeper<S>
-        ensures tells { (a : Archive) → Settled HoldsAny (state S.Store db) a → ⟦<Self as Keeper>⟧.tells result a }
+        ensures tells { (a : Archive) → Settled HoldsAny (state S.Store db) a →
+            ⟦<Self as Keeper>⟧.tells result a }
+        ensures both { IsIdle (state S.Store db) → (state S.Store db).now.schema ≡ both_tables →
+            ⟦<Self as Keeper>⟧.tells result (archive_in (state S.Store db).now) }
+        ensures profiles { IsIdle (state S.Store db) →
+            (state S.Store db).now.schema ≡ profiles_alone →
+            ⟦<Self as Keeper>⟧.tells result (profiles_in (state S.Store db).now) }
+        ensures none { IsIdle (state S.Store db) → (state S.Store db).now.schema ≡ no_tables →
+            ⟦<Self as Keeper>⟧.tells result empty_archive }
         ensures none_failed { ⟦<Self as Keeper>⟧.faults result ≡ 0 }
     {
+        // Here the connection says what it keeps true of itself.
+        let _ = db.is_autocommit();
+        let _ = db.schema();
         SqliteKeeper {
             db,
             made: false,
@@ -65,7 +83,9 @@ impl<S: Alter> SqliteKeeper<S> {
     fn prepare(&mut self) -> Result<(), KeepError>
         ensures continues { Continues (state S.Store self.old.db) (state S.Store self.new.db) }
         ensures faults { self.new.faults ≡ self.old.faults }
-        ensures made { Lives (state S.Store self.new.db) → (a : Archive) → Settled (HoldsOnce self.old.made) (state S.Store self.old.db) a → Settled (HoldsOnce self.new.made) (state S.Store self.new.db) a }
+        ensures made { Lives (state S.Store self.new.db) → (a : Archive) →
+            Settled (HoldsOnce self.old.made) (state S.Store self.old.db) a →
+            Settled (HoldsOnce self.new.made) (state S.Store self.new.db) a }
         ensures ready { OnOk result (self.new.made ≡ true) }
     {
         if !self.made {
@@ -96,10 +116,15 @@ impl<S: Alter> SqliteKeeper<S> {
     ) -> Result<Option<Vec<u8>>, KeepError>
         ensures continues { Continues (state S.Store self.old.db) (state S.Store self.new.db) }
         ensures faults { self.new.faults ≡ self.old.faults }
-        ensures found { Lives (state S.Store self.new.db) → (a : Archive) → Settled (HoldsOnce self.old.made) (state S.Store self.old.db) a
-            → IfOk result (λ found. option_map (λ bytes. bytes.items) found ≡ option_map (λ p. p.bytes) (profile_at a bench.now name.now)) }
-        ensures short { IfOk result (λ found. IfSome found (λ bytes. length bytes.items ≤ longest_body)) }
-        ensures same { Lives (state S.Store self.new.db) → (a : Archive) → Settled (HoldsOnce self.old.made) (state S.Store self.old.db) a → Settled (HoldsOnce self.new.made) (state S.Store self.new.db) a }
+        ensures found { Lives (state S.Store self.new.db) → (a : Archive) →
+            Settled (HoldsOnce self.old.made) (state S.Store self.old.db) a →
+            IfOk result (λ found. option_map (λ bytes. bytes.items) found ≡ option_map
+            (λ p. p.bytes) (profile_at a bench.now name.now)) }
+        ensures short { IfOk result (λ found. IfSome found
+            (λ bytes. length bytes.items ≤ longest_body)) }
+        ensures same { Lives (state S.Store self.new.db) → (a : Archive) →
+            Settled (HoldsOnce self.old.made) (state S.Store self.old.db) a →
+            Settled (HoldsOnce self.new.made) (state S.Store self.new.db) a }
     {
         self.prepare()?;
         let rows = profile_rows(&mut self.db, bench, name)?;
@@ -114,9 +139,14 @@ impl<S: Alter> SqliteKeeper<S> {
     ) -> Result<Option<Stored>, KeepError>
         ensures continues { Continues (state S.Store self.old.db) (state S.Store self.new.db) }
         ensures faults { self.new.faults ≡ self.old.faults }
-        ensures found { Lives (state S.Store self.new.db) → (a : Archive) → Settled (HoldsOnce self.old.made) (state S.Store self.old.db) a → IfOk result (λ found. found ≡ option_map found_of (capture_at a bench.now key.now)) }
-        ensures short { IfOk result (λ found. IfSome found (λ stored. length stored.bytes ≤ longest_body)) }
-        ensures same { Lives (state S.Store self.new.db) → (a : Archive) → Settled (HoldsOnce self.old.made) (state S.Store self.old.db) a → Settled (HoldsOnce self.new.made) (state S.Store self.new.db) a }
+        ensures found { Lives (state S.Store self.new.db) → (a : Archive) →
+            Settled (HoldsOnce self.old.made) (state S.Store self.old.db) a →
+            IfOk result (λ found. found ≡ option_map found_of (capture_at a bench.now key.now)) }
+        ensures short { IfOk result (λ found. IfSome found
+            (λ stored. length stored.bytes ≤ longest_body)) }
+        ensures same { Lives (state S.Store self.new.db) → (a : Archive) →
+            Settled (HoldsOnce self.old.made) (state S.Store self.old.db) a →
+            Settled (HoldsOnce self.new.made) (state S.Store self.new.db) a }
     {
         self.prepare()?;
         let rows = capture_rows(&mut self.db, bench, key)?;
@@ -126,9 +156,24 @@ impl<S: Alter> SqliteKeeper<S> {
     fn store_profile(&mut self, bench: &str, name: &str, bytes: &[u8]) -> Result<Put, KeepError>
         ensures continues { Continues (state S.Store self.old.db) (state S.Store self.new.db) }
         ensures faults { self.new.faults ≡ self.old.faults }
-        ensures answer { Lives (state S.Store self.new.db) → (a : Archive) → Settled (HoldsOnce self.old.made) (state S.Store self.old.db) a → IfOk result (λ put. put ≡ put_of_profile a (record { bench = bench.now; name = name.now; bytes = bytes.now })) }
-        ensures rows { Lives (state S.Store self.new.db) → (a : Archive) → Settled (HoldsOnce self.old.made) (state S.Store self.old.db) a → IfOk result (λ put. Settled (HoldsOnce self.new.made) (state S.Store self.new.db) (after_profile put a (record { bench = bench.now; name = name.now; bytes = bytes.now }))) }
-        ensures err { Lives (state S.Store self.new.db) → (a : Archive) → Settled (HoldsOnce self.old.made) (state S.Store self.old.db) a → OnErr result (Settled (HoldsOnce self.new.made) (state S.Store self.new.db) a) }
+        ensures answer { Lives (state S.Store self.new.db) → (a : Archive) →
+            Settled (HoldsOnce self.old.made) (state S.Store self.old.db) a →
+            IfOk result (λ put. put ≡ put_of_profile a (record {
+              bench = bench.now;
+              name = name.now;
+              bytes = bytes.now;
+            })) }
+        ensures rows { Lives (state S.Store self.new.db) → (a : Archive) →
+            Settled (HoldsOnce self.old.made) (state S.Store self.old.db) a →
+            IfOk result (λ put. Settled (HoldsOnce self.new.made) (state S.Store self.new.db)
+            (after_profile put a (record {
+              bench = bench.now;
+              name = name.now;
+              bytes = bytes.now;
+            }))) }
+        ensures err { Lives (state S.Store self.new.db) → (a : Archive) →
+            Settled (HoldsOnce self.old.made) (state S.Store self.old.db) a →
+            OnErr result (Settled (HoldsOnce self.new.made) (state S.Store self.new.db) a) }
     {
         self.prepare()?;
         put_profile(&mut self.db, bench, name, bytes)
@@ -143,9 +188,26 @@ impl<S: Alter> SqliteKeeper<S> {
     ) -> Result<Put, KeepError>
         ensures continues { Continues (state S.Store self.old.db) (state S.Store self.new.db) }
         ensures faults { self.new.faults ≡ self.old.faults }
-        ensures answer { Lives (state S.Store self.new.db) → (a : Archive) → Settled (HoldsOnce self.old.made) (state S.Store self.old.db) a → IfOk result (λ put. put ≡ put_of_capture a (record { bench = bench.now; key = key.now; profile = profile.now; bytes = bytes.now })) }
-        ensures rows { Lives (state S.Store self.new.db) → (a : Archive) → Settled (HoldsOnce self.old.made) (state S.Store self.old.db) a → IfOk result (λ put. Settled (HoldsOnce self.new.made) (state S.Store self.new.db) (after_capture put a (record { bench = bench.now; key = key.now; profile = profile.now; bytes = bytes.now }))) }
-        ensures err { Lives (state S.Store self.new.db) → (a : Archive) → Settled (HoldsOnce self.old.made) (state S.Store self.old.db) a → OnErr result (Settled (HoldsOnce self.new.made) (state S.Store self.new.db) a) }
+        ensures answer { Lives (state S.Store self.new.db) → (a : Archive) →
+            Settled (HoldsOnce self.old.made) (state S.Store self.old.db) a →
+            IfOk result (λ put. put ≡ put_of_capture a (record {
+              bench = bench.now;
+              key = key.now;
+              profile = profile.now;
+              bytes = bytes.now;
+            })) }
+        ensures rows { Lives (state S.Store self.new.db) → (a : Archive) →
+            Settled (HoldsOnce self.old.made) (state S.Store self.old.db) a →
+            IfOk result (λ put. Settled (HoldsOnce self.new.made) (state S.Store self.new.db)
+            (after_capture put a (record {
+              bench = bench.now;
+              key = key.now;
+              profile = profile.now;
+              bytes = bytes.now;
+            }))) }
+        ensures err { Lives (state S.Store self.new.db) → (a : Archive) →
+            Settled (HoldsOnce self.old.made) (state S.Store self.old.db) a →
+            OnErr result (Settled (HoldsOnce self.new.made) (state S.Store self.new.db) a) }
     {
         self.prepare()?;
         put_capture(&mut self.db, bench, key, profile, bytes)
@@ -154,9 +216,15 @@ impl<S: Alter> SqliteKeeper<S> {
     fn list(&mut self, alloc: Global, bench: &str) -> Result<Vec<KeyRow>, KeepError>
         ensures continues { Continues (state S.Store self.old.db) (state S.Store self.new.db) }
         ensures faults { self.new.faults ≡ self.old.faults }
-        ensures listed { Lives (state S.Store self.new.db) → (a : Archive) → Settled (HoldsOnce self.old.made) (state S.Store self.old.db) a → IfOk result (λ rows. Lists (captures_of a bench.now) rows.items) }
-        ensures ascending { Lives (state S.Store self.new.db) → (a : Archive) → Settled (HoldsOnce self.old.made) (state S.Store self.old.db) a → IfOk result (λ rows. Ascends rows.items) }
-        ensures same { Lives (state S.Store self.new.db) → (a : Archive) → Settled (HoldsOnce self.old.made) (state S.Store self.old.db) a → Settled (HoldsOnce self.new.made) (state S.Store self.new.db) a }
+        ensures listed { Lives (state S.Store self.new.db) → (a : Archive) →
+            Settled (HoldsOnce self.old.made) (state S.Store self.old.db) a →
+            IfOk result (λ rows. Lists (captures_of a bench.now) rows.items) }
+        ensures ascending { Lives (state S.Store self.new.db) → (a : Archive) →
+            Settled (HoldsOnce self.old.made) (state S.Store self.old.db) a →
+            IfOk result (λ rows. Ascends rows.items) }
+        ensures same { Lives (state S.Store self.new.db) → (a : Archive) →
+            Settled (HoldsOnce self.old.made) (state S.Store self.old.db) a →
+            Settled (HoldsOnce self.new.made) (state S.Store self.new.db) a }
     {
         self.prepare()?;
         list_captures(alloc, &mut self.db, bench)
@@ -225,8 +293,10 @@ impl<S: Alter> Keeper for SqliteKeeper<S> {
 
 /// An empty archive in a database in memory.
 pub fn open_in_memory(alloc: Global) -> Result<SqliteKeeper<MemStore>, AllocError>
-    ensures tells { IfOk result (λ keeper. ⟦<SqliteKeeper<MemStore> as Keeper>⟧.tells keeper empty_archive) }
-    ensures none_failed { IfOk result (λ keeper. ⟦<SqliteKeeper<MemStore> as Keeper>⟧.faults keeper ≡ 0) }
+    ensures tells { IfOk result
+        (λ keeper. ⟦<SqliteKeeper<MemStore> as Keeper>⟧.tells keeper empty_archive) }
+    ensures none_failed { IfOk result (λ keeper. ⟦<SqliteKeeper<MemStore> as Keeper>⟧.faults keeper
+        ≡ 0) }
 {
     let db = Connection::open_in_memory(alloc)?;
     Ok(SqliteKeeper::new(db))

@@ -17,6 +17,11 @@ pub enum KeepError {
 }
 
 impl From<sqlite::Error> for KeepError {
+    ghost use Rattle.std.specs.Prelude.{◌≡◌};
+    ghost use Rattle.pl_keeper.specs.Causes.{keep_error};
+
+    ghost from_gives = { λ refused error. error ≡ keep_error refused };
+
     fn from(error: sqlite::Error) -> KeepError {
         match error {
             sqlite::Error::SqliteFailure(ErrorCode::OutOfMemory) => KeepError::Memory,

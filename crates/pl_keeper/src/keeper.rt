@@ -1,8 +1,11 @@
 //! The archive as a trait: what it keeps, and what each of its calls answers.
-ghost use Rattle.std.specs.Prelude.{◌≡◌, ◌<◌, ◌≤◌, ℕ, Bool, true, option_map, length, IfOk, IfSome, OnErr};
+ghost use Rattle.std.specs.Prelude.{◌≡◌, ◌<◌, ◌≤◌, ℕ, Bool, true, option_map, length, IfOk, IfSome};
+ghost use Rattle.std.specs.Prelude.{OnErr};
 ghost use Rattle.pl_io.specs.Faults.{last_count};
-ghost use Rattle.pl_keeper.specs.Archive.{Archive, longest_body, profile_at, capture_at, captures_of};
-ghost use Rattle.pl_keeper.specs.Puts.{put_of_profile, put_of_capture, after_profile, after_capture};
+ghost use Rattle.pl_keeper.specs.Archive.{Archive, longest_body, profile_at, capture_at};
+ghost use Rattle.pl_keeper.specs.Archive.{captures_of};
+ghost use Rattle.pl_keeper.specs.Puts.{put_of_profile, put_of_capture, after_profile};
+ghost use Rattle.pl_keeper.specs.Puts.{after_capture};
 ghost use Rattle.pl_keeper.specs.Counts.{IsCounted, IsSure};
 ghost use Rattle.pl_keeper.specs.Listing.{found_of, Lists, Ascends};
 
@@ -12,8 +15,8 @@ use std::marker::Model;
 
 /// What a put answers. Only `New` changes the archive.
 ///
-/// Where the row is there, the answer is `OtherProfile`, `OtherBytes` or `Same`, the first that applies. Where it
-/// isn't, the answer is `NoProfile`, `Full` or `New`, the first that applies.
+/// Where the row is there, the answer is `OtherProfile`, `OtherBytes` or `Same`, the first that
+/// applies. Where it isn't, the answer is `NoProfile`, `Full` or `New`, the first that applies.
 #[derive(Clone, Copy, Debug, PartialEq, Eq)]
 pub enum Put {
     /// There was no such row, and it was added.
@@ -68,18 +71,23 @@ impl Model for KeyRow {
 
     ghost Value = { Line };
 
-    ghost view = { λ r. record { key = string_bytes r.key; profile = string_bytes r.profile; length = r.length } };
+    ghost view = { λ r. record {
+      key = string_bytes r.key;
+      profile = string_bytes r.profile;
+      length = r.length;
+    } };
 }
 
 /// Profiles by bench and name, captures by bench and key.
 ///
-/// After an answer other than `New`, and after either error, the archive is as it was. What a call says of the
-/// archive is said under `lives` of the keeper as the call leaves it.
+/// After an answer other than `New`, and after either error, the archive is as it was. What a call
+/// says of the archive is said under `lives` of the keeper as the call leaves it.
 pub trait Keeper {
     /// The keeper holds this archive.
     ghost tells: { Self → Archive → Type 0 };
 
-    /// Nothing outside has spoiled what it holds: what was written came back, and nobody else wrote it.
+    /// Nothing outside has spoiled what it holds: what was written came back, and nobody else wrote
+    /// it.
     ghost lives: { Self → Type 0 };
 
     /// Whether the keeper is sure: no call fails.
@@ -95,9 +103,11 @@ pub trait Keeper {
         bench: &str,
         name: &str,
     ) -> Result<Option<Vec<u8>>, KeepError>
-        ensures found { lives self.new → (a : Archive) → tells self.old a
-            → IfOk result (λ found. option_map (λ bytes. bytes.items) found ≡ option_map (λ p. p.bytes) (profile_at a bench.now name.now)) }
-        ensures short { IfOk result (λ found. IfSome found (λ bytes. length bytes.items ≤ longest_body)) }
+        ensures found { lives self.new → (a : Archive) → tells self.old a →
+            IfOk result (λ found. option_map (λ bytes. bytes.items) found ≡ option_map
+            (λ p. p.bytes) (profile_at a bench.now name.now)) }
+        ensures short { IfOk result (λ found. IfSome found
+            (λ bytes. length bytes.items ≤ longest_body)) }
         ensures same { lives self.new → (a : Archive) → tells self.old a → tells self.new a }
         ensures lived { lives self.new → lives self.old }
         ensures counted { IsCounted (faults self.old) (faults self.new) result }
@@ -113,11 +123,20 @@ pub trait Keeper {
         bytes: &[u8],
     ) -> Result<Put, KeepError>
         requires { length bytes.now ≤ longest_body }
-        ensures answer { lives self.new → (a : Archive) → tells self.old a
-            → IfOk result (λ put. put ≡ put_of_profile a (record { bench = bench.now; name = name.now; bytes = bytes.now })) }
-        ensures rows { lives self.new → (a : Archive) → tells self.old a
-            → IfOk result (λ put. tells self.new (after_profile put a (record { bench = bench.now; name = name.now; bytes = bytes.now }))) }
-        ensures err { lives self.new → (a : Archive) → tells self.old a → OnErr result (tells self.new a) }
+        ensures answer { lives self.new → (a : Archive) → tells self.old a →
+            IfOk result (λ put. put ≡ put_of_profile a (record {
+              bench = bench.now;
+              name = name.now;
+              bytes = bytes.now;
+            })) }
+        ensures rows { lives self.new → (a : Archive) → tells self.old a →
+            IfOk result (λ put. tells self.new (after_profile put a (record {
+              bench = bench.now;
+              name = name.now;
+              bytes = bytes.now;
+            }))) }
+        ensures err { lives self.new → (a : Archive) → tells self.old a →
+            OnErr result (tells self.new a) }
         ensures lived { lives self.new → lives self.old }
         ensures counted { IsCounted (faults self.old) (faults self.new) result }
         ensures never_falls { faults self.old ≤ faults self.new }
@@ -130,9 +149,10 @@ pub trait Keeper {
         bench: &str,
         key: &str,
     ) -> Result<Option<Stored>, KeepError>
-        ensures found { lives self.new → (a : Archive) → tells self.old a
-            → IfOk result (λ found. found ≡ option_map found_of (capture_at a bench.now key.now)) }
-        ensures short { IfOk result (λ found. IfSome found (λ stored. length stored.bytes ≤ longest_body)) }
+        ensures found { lives self.new → (a : Archive) → tells self.old a →
+            IfOk result (λ found. found ≡ option_map found_of (capture_at a bench.now key.now)) }
+        ensures short { IfOk result (λ found. IfSome found
+            (λ stored. length stored.bytes ≤ longest_body)) }
         ensures same { lives self.new → (a : Archive) → tells self.old a → tells self.new a }
         ensures lived { lives self.new → lives self.old }
         ensures counted { IsCounted (faults self.old) (faults self.new) result }
@@ -149,11 +169,22 @@ pub trait Keeper {
         bytes: &[u8],
     ) -> Result<Put, KeepError>
         requires { length bytes.now ≤ longest_body }
-        ensures answer { lives self.new → (a : Archive) → tells self.old a
-            → IfOk result (λ put. put ≡ put_of_capture a (record { bench = bench.now; key = key.now; profile = profile.now; bytes = bytes.now })) }
-        ensures rows { lives self.new → (a : Archive) → tells self.old a
-            → IfOk result (λ put. tells self.new (after_capture put a (record { bench = bench.now; key = key.now; profile = profile.now; bytes = bytes.now }))) }
-        ensures err { lives self.new → (a : Archive) → tells self.old a → OnErr result (tells self.new a) }
+        ensures answer { lives self.new → (a : Archive) → tells self.old a →
+            IfOk result (λ put. put ≡ put_of_capture a (record {
+              bench = bench.now;
+              key = key.now;
+              profile = profile.now;
+              bytes = bytes.now;
+            })) }
+        ensures rows { lives self.new → (a : Archive) → tells self.old a →
+            IfOk result (λ put. tells self.new (after_capture put a (record {
+              bench = bench.now;
+              key = key.now;
+              profile = profile.now;
+              bytes = bytes.now;
+            }))) }
+        ensures err { lives self.new → (a : Archive) → tells self.old a →
+            OnErr result (tells self.new a) }
         ensures lived { lives self.new → lives self.old }
         ensures counted { IsCounted (faults self.old) (faults self.new) result }
         ensures never_falls { faults self.old ≤ faults self.new }
@@ -161,8 +192,10 @@ pub trait Keeper {
 
     /// The captures of a bench, in ascending order of key.
     fn keys(&mut self, alloc: Global, bench: &str) -> Result<Vec<KeyRow>, KeepError>
-        ensures listed { lives self.new → (a : Archive) → tells self.old a → IfOk result (λ rows. Lists (captures_of a bench.now) rows.items) }
-        ensures ascending { lives self.new → (a : Archive) → tells self.old a → IfOk result (λ rows. Ascends rows.items) }
+        ensures listed { lives self.new → (a : Archive) → tells self.old a →
+            IfOk result (λ rows. Lists (captures_of a bench.now) rows.items) }
+        ensures ascending { lives self.new → (a : Archive) → tells self.old a →
+            IfOk result (λ rows. Ascends rows.items) }
         ensures same { lives self.new → (a : Archive) → tells self.old a → tells self.new a }
         ensures lived { lives self.new → lives self.old }
         ensures counted { IsCounted (faults self.old) (faults self.new) result }

@@ -1,7 +1,9 @@
-//! The archive of a bench: port profiles, and captures under keys, each kept with the profile that it was taken under.
+//! The archive of a bench: port profiles, and captures under keys, each kept with the profile that
+//! it was taken under.
 //!
-//! `Keeper` is the archive as the program sees it. `SqliteKeeper` keeps it in two tables of a database, in memory or in a
-//! file that SQLite reads; `MapKeeper` keeps it in memory and fails at the calls that it is told.
+//! `Keeper` is the archive as the program sees it. `SqliteKeeper` keeps it in two tables of a
+//! database, in memory or in a file that SQLite reads; `MapKeeper` keeps it in memory and fails at
+//! the calls that it is told.
 #![tactic(auto)]
 
 mod compare;

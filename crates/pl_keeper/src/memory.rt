@@ -19,8 +19,8 @@ use std::alloc::{AllocError, Global};
 mod held;
 mod rows;
 
-/// The archive in memory, in the order in which it was stored. It tells its rows, and fails at the calls that it is
-/// told.
+/// The archive in memory, in the order in which it was stored. It tells its rows, and fails at the
+/// calls that it is told.
 #[derive(Debug, Drop)]
 pub struct MapKeeper {
     profiles: Vec<HeldProfile>,
@@ -29,11 +29,13 @@ pub struct MapKeeper {
 }
 
 impl MapKeeper {
-    /// An empty archive. `fails` names the calls, counted from 1 over all five, that answer `Failed`; no other call
-    /// does. It is sure where none of these is still to come and its count is below the last value.
+    /// An empty archive. `fails` names the calls, counted from 1 over all five, that answer
+    /// `Failed`; no other call does. It is sure where none of these is still to come and its count
+    /// is below the last value.
     pub fn new(alloc: Global, fails: &[u64]) -> Result<MapKeeper, AllocError>
         ensures empty { IfOk result (λ keeper. ⟦<Self as Keeper>⟧.tells keeper empty_archive) }
-        ensures sure { IfOk result (λ keeper. ⟦<Self as Keeper>⟧.sure keeper ≡ none_from 1 fails.now) }
+        ensures sure { IfOk result (λ keeper. ⟦<Self as Keeper>⟧.sure keeper
+            ≡ none_from 1 fails.now) }
         ensures none_failed { IfOk result (λ keeper. ⟦<Self as Keeper>⟧.faults keeper ≡ 0) }
     {
         Ok(MapKeeper {
@@ -45,7 +47,10 @@ impl MapKeeper {
 }
 
 impl Keeper for MapKeeper {
-    ghost tells = { λ k a. a ≡ record { profiles = k.profiles.items; captures = k.captures.items } };
+    ghost tells = { λ k a. a ≡ record {
+      profiles = k.profiles.items;
+      captures = k.captures.items;
+    } };
 
     ghost lives = { λ _. ⊤ };
 

@@ -131,7 +131,7 @@ fn keys_in_order<K: Keeper>(rt: &impl Abort, alloc: Global, keeper: &mut K) -> R
     Ok(())
 }
 
-/// The longest body is found as it was put.
+/// The longest body is found as it was put, and listed with its length.
 fn a_longest_body<K: Keeper>(rt: &impl Abort, alloc: Global, keeper: &mut K) -> Result<(), Fail> {
     let body = vec![in alloc; 7u8; LONGEST_BODY]?;
     assert_eq!(rt;
@@ -140,6 +140,13 @@ fn a_longest_body<K: Keeper>(rt: &impl Abort, alloc: Global, keeper: &mut K) -> 
     );
     let back = keeper.profile(alloc, "b", "p")?.ok_or("no profile")?;
     assert!(rt; back.as_slice() == body.as_slice());
+    assert_eq!(rt;
+        keeper.put_capture(alloc, "b", "k", "p", body.as_slice()),
+        Ok(Put::New)
+    );
+    let back = keeper.capture(alloc, "b", "k")?.ok_or("no capture")?;
+    assert!(rt; back.bytes.as_slice() == body.as_slice());
+    assert_eq!(rt; listed(keeper, alloc, "b")?.as_str(), "k p 4194304;");
     Ok(())
 }
 
@@ -191,6 +198,40 @@ fn the_planned_call_fails(rt: HostRuntime) -> Result<(), Fail> {
             "call {k}"
         );
     }
+    Ok(())
+}
+
+/// A keeper tells what an earlier one stored, and a row that SQL added under a number of its own.
+#[test]
+fn one_keeper_after_the_other(rt: HostRuntime) -> Result<(), Fail> {
+    let mut first = open_in_memory(rt.alloc())?;
+    assert_eq!(rt; first.put_profile(rt.alloc(), "b", "p", &[1]), Ok(Put::New));
+    assert_eq!(rt;
+        first.put_capture(rt.alloc(), "b", "k", "p", &[2, 0]),
+        Ok(Put::New)
+    );
+    let mut db = first.into_connection();
+    db.execute(
+        "INSERT INTO captures (rowid, bench, label, profile, body) VALUES (-5, 'b', 'a', 'p', x'00')",
+        &[],
+    )?;
+    let mut second = SqliteKeeper::new(db);
+    assert_eq!(rt;
+        second.put_profile(rt.alloc(), "b", "p", &[1]),
+        Ok(Put::Same)
+    );
+    assert_eq!(rt;
+        second.put_capture(rt.alloc(), "b", "k", "p", &[2, 0]),
+        Ok(Put::Same)
+    );
+    assert_eq!(rt;
+        second.put_capture(rt.alloc(), "b", "z", "p", &[]),
+        Ok(Put::New)
+    );
+    assert_eq!(rt;
+        listed(&mut second, rt.alloc(), "b")?.as_str(),
+        "a p 1;k p 2;z p 0;"
+    );
     Ok(())
 }
 

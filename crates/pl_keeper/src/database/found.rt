@@ -1,5 +1,6 @@
 //! What the rows of a look-up say.
-ghost use Rattle.std.specs.Prelude.{List, ◌≡◌, ◌≤◌, [], ◌∷◌, map, length, slice_get, option_map, IfOk, IfSome, IfNone};
+ghost use Rattle.std.specs.Prelude.{List, ◌≡◌, ◌≤◌, [], ◌∷◌, map, length, slice_get, option_map};
+ghost use Rattle.std.specs.Prelude.{IfOk, IfSome, IfNone};
 ghost use Rattle.std.specs.List.Sorted.{IsPermutation};
 ghost use Rattle.sqlite.specs.declared.types.Value.TheVariants.{Text, Blob};
 ghost use Rattle.sqlite.specs.Order.{column};
@@ -50,9 +51,11 @@ fn text_at(row: &Row, place: usize) -> Result<&[u8], KeepError>
 
 /// The body that a look-up of a profile found.
 pub(crate) fn found_profile(alloc: Global, rows: &[Row]) -> Result<Option<Vec<u8>>, KeepError>
-    ensures found { (ps : List Profile) → IsPermutation (map body_of ps) rows.now
-        → IfOk result (λ found. option_map (λ bytes. bytes.items) found ≡ option_map (λ p. p.bytes) (slice_get ps 0)) }
-    ensures short { IfOk result (λ found. IfSome found (λ bytes. length bytes.items ≤ longest_body)) }
+    ensures found { (ps : List Profile) → IsPermutation (map body_of ps) rows.now →
+        IfOk result (λ found. option_map (λ bytes. bytes.items) found ≡ option_map
+        (λ p. p.bytes) (slice_get ps 0)) }
+    ensures short { IfOk result (λ found. IfSome found
+        (λ bytes. length bytes.items ≤ longest_body)) }
 {
     let Some(row) = only_row(rows)? else {
         return Ok(None);
@@ -62,8 +65,8 @@ pub(crate) fn found_profile(alloc: Global, rows: &[Row]) -> Result<Option<Vec<u8
 
 /// What a put answers where the profile is there.
 pub(crate) fn put_over_profile(rows: &[Row], bytes: &[u8]) -> Result<Option<Put>, KeepError>
-    ensures { (ps : List Profile) → IsPermutation (map body_of ps) rows.now
-        → IfOk result (λ put. put ≡ option_map (λ p. compared p.bytes bytes.now) (slice_get ps 0)) }
+    ensures { (ps : List Profile) → IsPermutation (map body_of ps) rows.now →
+        IfOk result (λ put. put ≡ option_map (λ p. compared p.bytes bytes.now) (slice_get ps 0)) }
 {
     let Some(row) = only_row(rows)? else {
         return Ok(None);
@@ -72,7 +75,8 @@ pub(crate) fn put_over_profile(rows: &[Row], bytes: &[u8]) -> Result<Option<Put>
 }
 
 fn stored(alloc: Global, row: &Row) -> Result<Stored, KeepError>
-    ensures found { (c : Capture) → row.now ≡ owner_and_body c → IfOk result (λ stored. stored ≡ found_of c) }
+    ensures found { (c : Capture) → row.now ≡ owner_and_body c →
+        IfOk result (λ stored. stored ≡ found_of c) }
     ensures short { IfOk result (λ stored. length stored.bytes ≤ longest_body) }
 {
     let profile = match row.get::<String>(0) {
@@ -85,9 +89,10 @@ fn stored(alloc: Global, row: &Row) -> Result<Stored, KeepError>
 
 /// The capture that a look-up found.
 pub(crate) fn found_capture(alloc: Global, rows: &[Row]) -> Result<Option<Stored>, KeepError>
-    ensures found { (cs : List Capture) → IsPermutation (map owner_and_body cs) rows.now
-        → IfOk result (λ found. found ≡ option_map found_of (slice_get cs 0)) }
-    ensures short { IfOk result (λ found. IfSome found (λ stored. length stored.bytes ≤ longest_body)) }
+    ensures found { (cs : List Capture) → IsPermutation (map owner_and_body cs) rows.now →
+        IfOk result (λ found. found ≡ option_map found_of (slice_get cs 0)) }
+    ensures short { IfOk result (λ found. IfSome found
+        (λ stored. length stored.bytes ≤ longest_body)) }
 {
     let Some(row) = only_row(rows)? else {
         return Ok(None);
@@ -96,7 +101,8 @@ pub(crate) fn found_capture(alloc: Global, rows: &[Row]) -> Result<Option<Stored
 }
 
 fn compared_capture(row: &Row, profile: &str, bytes: &[u8]) -> Result<Put, KeepError>
-    ensures { (c : Capture) → row.now ≡ owner_and_body c → IfOk result (λ put. put ≡ compared_capture c profile.now bytes.now) }
+    ensures { (c : Capture) → row.now ≡ owner_and_body c →
+        IfOk result (λ put. put ≡ compared_capture c profile.now bytes.now) }
 {
     if text_at(row, 0)? == profile.as_bytes() {
         Ok(compared(body_at(row, 1)?, bytes))
@@ -111,8 +117,9 @@ pub(crate) fn put_over_capture(
     profile: &str,
     bytes: &[u8],
 ) -> Result<Option<Put>, KeepError>
-    ensures { (cs : List Capture) → IsPermutation (map owner_and_body cs) rows.now
-        → IfOk result (λ put. put ≡ option_map (λ c. compared_capture c profile.now bytes.now) (slice_get cs 0)) }
+    ensures { (cs : List Capture) → IsPermutation (map owner_and_body cs) rows.now →
+        IfOk result (λ put. put ≡ option_map
+        (λ c. compared_capture c profile.now bytes.now) (slice_get cs 0)) }
 {
     let Some(row) = only_row(rows)? else {
         return Ok(None);

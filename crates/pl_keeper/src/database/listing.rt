@@ -34,16 +34,21 @@ fn line(row: &Row) -> Result<KeyRow, KeepError>
     })
 }
 
-/// The captures of a bench, in ascending order of key. The rows are taken one at a time, to the end.
+/// The captures of a bench, in ascending order of key. The rows are taken one at a time, to the
+/// end.
 pub(crate) fn list_captures<S: Alter>(
     alloc: Global,
     db: &mut Connection<S>,
     bench: &str,
 ) -> Result<Vec<KeyRow>, KeepError>
     ensures continues { Continues (state S.Store db.old) (state S.Store db.new) }
-    ensures listed { Lives (state S.Store db.new) → (a : Archive) → Settled Holds (state S.Store db.old) a → IfOk result (λ rows. Lists (captures_of a bench.now) rows.items) }
-    ensures ascending { Lives (state S.Store db.new) → (a : Archive) → Settled Holds (state S.Store db.old) a → IfOk result (λ rows. Ascends rows.items) }
-    ensures kept { Lives (state S.Store db.new) → (a : Archive) → Settled Holds (state S.Store db.old) a → Settled Holds (state S.Store db.new) a }
+    ensures listed { Lives (state S.Store db.new) → (a : Archive) →
+        Settled Holds (state S.Store db.old) a →
+        IfOk result (λ rows. Lists (captures_of a bench.now) rows.items) }
+    ensures ascending { Lives (state S.Store db.new) → (a : Archive) →
+        Settled Holds (state S.Store db.old) a → IfOk result (λ rows. Ascends rows.items) }
+    ensures kept { Lives (state S.Store db.new) → (a : Archive) →
+        Settled Holds (state S.Store db.old) a → Settled Holds (state S.Store db.new) a }
 {
     let mut lines = Vec::new(alloc);
     let mut rows = db.query(

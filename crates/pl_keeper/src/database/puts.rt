@@ -5,7 +5,8 @@ ghost use Rattle.sqlite.specs.State.{HasCleanDisk, KeepsCommit};
 ghost use Rattle.pl_keeper.specs.Archive.{Archive};
 ghost use Rattle.pl_keeper.specs.Rows.{Holds};
 ghost use Rattle.pl_keeper.specs.Settled.{Lives, Continues, Settled, Within};
-ghost use Rattle.pl_keeper.specs.Puts.{put_of_profile, put_of_capture, after_profile, after_capture, commits};
+ghost use Rattle.pl_keeper.specs.Puts.{put_of_profile, put_of_capture, after_profile};
+ghost use Rattle.pl_keeper.specs.Puts.{after_capture, commits};
 
 use crate::database::found::{only_row, put_over_capture, put_over_profile};
 use crate::database::statements::{
@@ -33,12 +34,20 @@ fn choose_profile<S: Alter>(
 ) -> Result<Put, KeepError>
     ensures same_reference { tx.new.conn.ghost_name ≡ tx.old.conn.ghost_name }
     ensures continues { Continues (state S.Store tx.old.conn.now) (state S.Store tx.new.conn.now) }
-    ensures answer { HasCleanDisk (state S.Store tx.new.conn.now) → (a : Archive) → Within (state S.Store tx.old.conn.now) a
-        → IfOk result (λ put. put ≡ put_of_profile a (record { bench = bench.now; name = name.now; bytes = bytes.now })) }
-    ensures seen { HasCleanDisk (state S.Store tx.new.conn.now) → (a : Archive) → Within (state S.Store tx.old.conn.now) a
-        → IfOk result (λ put. Within (state S.Store tx.new.conn.now) (after_profile put a (record { bench = bench.now; name = name.now; bytes = bytes.now }))) }
-    ensures kept { HasCleanDisk (state S.Store tx.new.conn.now) → (a : Archive) → Within (state S.Store tx.old.conn.now) a
-        → KeepsCommit (state S.Store tx.old.conn.now) (state S.Store tx.new.conn.now) }
+    ensures answer { HasCleanDisk (state S.Store tx.new.conn.now) → (a : Archive) →
+        Within (state S.Store tx.old.conn.now) a →
+        IfOk result (λ put. put ≡ put_of_profile a (record {
+          bench = bench.now;
+          name = name.now;
+          bytes = bytes.now;
+        })) }
+    ensures seen { HasCleanDisk (state S.Store tx.new.conn.now) → (a : Archive) →
+        Within (state S.Store tx.old.conn.now) a →
+        IfOk result (λ put. Within (state S.Store tx.new.conn.now) (after_profile put a
+        (record { bench = bench.now; name = name.now; bytes = bytes.now }))) }
+    ensures kept { HasCleanDisk (state S.Store tx.new.conn.now) → (a : Archive) →
+        Within (state S.Store tx.old.conn.now) a →
+        KeepsCommit (state S.Store tx.old.conn.now) (state S.Store tx.new.conn.now) }
 {
     let rows = profile_rows_inside(tx, bench, name)?;
     if let Some(put) = put_over_profile(rows.as_slice(), bytes)? {
@@ -62,12 +71,26 @@ fn choose_capture<S: Alter>(
 ) -> Result<Put, KeepError>
     ensures same_reference { tx.new.conn.ghost_name ≡ tx.old.conn.ghost_name }
     ensures continues { Continues (state S.Store tx.old.conn.now) (state S.Store tx.new.conn.now) }
-    ensures answer { HasCleanDisk (state S.Store tx.new.conn.now) → (a : Archive) → Within (state S.Store tx.old.conn.now) a
-        → IfOk result (λ put. put ≡ put_of_capture a (record { bench = bench.now; key = key.now; profile = profile.now; bytes = bytes.now })) }
-    ensures seen { HasCleanDisk (state S.Store tx.new.conn.now) → (a : Archive) → Within (state S.Store tx.old.conn.now) a
-        → IfOk result (λ put. Within (state S.Store tx.new.conn.now) (after_capture put a (record { bench = bench.now; key = key.now; profile = profile.now; bytes = bytes.now }))) }
-    ensures kept { HasCleanDisk (state S.Store tx.new.conn.now) → (a : Archive) → Within (state S.Store tx.old.conn.now) a
-        → KeepsCommit (state S.Store tx.old.conn.now) (state S.Store tx.new.conn.now) }
+    ensures answer { HasCleanDisk (state S.Store tx.new.conn.now) → (a : Archive) →
+        Within (state S.Store tx.old.conn.now) a →
+        IfOk result (λ put. put ≡ put_of_capture a (record {
+          bench = bench.now;
+          key = key.now;
+          profile = profile.now;
+          bytes = bytes.now;
+        })) }
+    ensures seen { HasCleanDisk (state S.Store tx.new.conn.now) → (a : Archive) →
+        Within (state S.Store tx.old.conn.now) a →
+        IfOk result (λ put. Within (state S.Store tx.new.conn.now) (after_capture put a
+        (record {
+          bench = bench.now;
+          key = key.now;
+          profile = profile.now;
+          bytes = bytes.now;
+        }))) }
+    ensures kept { HasCleanDisk (state S.Store tx.new.conn.now) → (a : Archive) →
+        Within (state S.Store tx.old.conn.now) a →
+        KeepsCommit (state S.Store tx.old.conn.now) (state S.Store tx.new.conn.now) }
 {
     let rows = capture_rows_inside(tx, bench, key)?;
     if let Some(put) = put_over_capture(rows.as_slice(), profile, bytes)? {
@@ -93,11 +116,20 @@ pub(crate) fn put_profile<S: Alter>(
     bytes: &[u8],
 ) -> Result<Put, KeepError>
     ensures continues { Continues (state S.Store db.old) (state S.Store db.new) }
-    ensures answer { Lives (state S.Store db.new) → (a : Archive) → Settled Holds (state S.Store db.old) a
-        → IfOk result (λ put. put ≡ put_of_profile a (record { bench = bench.now; name = name.now; bytes = bytes.now })) }
-    ensures rows { Lives (state S.Store db.new) → (a : Archive) → Settled Holds (state S.Store db.old) a
-        → IfOk result (λ put. Settled Holds (state S.Store db.new) (after_profile put a (record { bench = bench.now; name = name.now; bytes = bytes.now }))) }
-    ensures err { Lives (state S.Store db.new) → (a : Archive) → Settled Holds (state S.Store db.old) a → OnErr result (Settled Holds (state S.Store db.new) a) }
+    ensures answer { Lives (state S.Store db.new) → (a : Archive) →
+        Settled Holds (state S.Store db.old) a →
+        IfOk result (λ put. put ≡ put_of_profile a (record {
+          bench = bench.now;
+          name = name.now;
+          bytes = bytes.now;
+        })) }
+    ensures rows { Lives (state S.Store db.new) → (a : Archive) →
+        Settled Holds (state S.Store db.old) a →
+        IfOk result (λ put. Settled Holds (state S.Store db.new) (after_profile put a
+        (record { bench = bench.now; name = name.now; bytes = bytes.now }))) }
+    ensures err { Lives (state S.Store db.new) → (a : Archive) →
+        Settled Holds (state S.Store db.old) a →
+        OnErr result (Settled Holds (state S.Store db.new) a) }
 {
     if !db.is_autocommit() {
         return Err(KeepError::Failed);
@@ -119,11 +151,26 @@ pub(crate) fn put_capture<S: Alter>(
     bytes: &[u8],
 ) -> Result<Put, KeepError>
     ensures continues { Continues (state S.Store db.old) (state S.Store db.new) }
-    ensures answer { Lives (state S.Store db.new) → (a : Archive) → Settled Holds (state S.Store db.old) a
-        → IfOk result (λ put. put ≡ put_of_capture a (record { bench = bench.now; key = key.now; profile = profile.now; bytes = bytes.now })) }
-    ensures rows { Lives (state S.Store db.new) → (a : Archive) → Settled Holds (state S.Store db.old) a
-        → IfOk result (λ put. Settled Holds (state S.Store db.new) (after_capture put a (record { bench = bench.now; key = key.now; profile = profile.now; bytes = bytes.now }))) }
-    ensures err { Lives (state S.Store db.new) → (a : Archive) → Settled Holds (state S.Store db.old) a → OnErr result (Settled Holds (state S.Store db.new) a) }
+    ensures answer { Lives (state S.Store db.new) → (a : Archive) →
+        Settled Holds (state S.Store db.old) a →
+        IfOk result (λ put. put ≡ put_of_capture a (record {
+          bench = bench.now;
+          key = key.now;
+          profile = profile.now;
+          bytes = bytes.now;
+        })) }
+    ensures rows { Lives (state S.Store db.new) → (a : Archive) →
+        Settled Holds (state S.Store db.old) a →
+        IfOk result (λ put. Settled Holds (state S.Store db.new) (after_capture put a
+        (record {
+          bench = bench.now;
+          key = key.now;
+          profile = profile.now;
+          bytes = bytes.now;
+        }))) }
+    ensures err { Lives (state S.Store db.new) → (a : Archive) →
+        Settled Holds (state S.Store db.old) a →
+        OnErr result (Settled Holds (state S.Store db.new) a) }
 {
     if !db.is_autocommit() {
         return Err(KeepError::Failed);

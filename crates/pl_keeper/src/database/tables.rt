@@ -16,7 +16,8 @@ fn has_table(tables: &[Table], name: &[u8]) -> bool
     tables.iter().any(|table| table.name.as_slice() == name)
 }
 
-/// Whether the table of this name has these columns, so that nothing is made beside a table of another form.
+/// Whether the table of this name has these columns, so that nothing is made beside a table of
+/// another form.
 fn has_columns(tables: &[Table], name: &[u8], columns: &[&[u8]]) -> bool {
     tables.iter().any(|table| {
         table.name.as_slice() == name
@@ -41,30 +42,45 @@ fn accept(tables: &[Table], name: &[u8], columns: &[&[u8]]) -> Result<(), KeepEr
 
 fn create_profiles<S: Alter>(db: &mut Connection<S>) -> Result<usize, Error>
     ensures continues { Continues (state S.Store db.old) (state S.Store db.new) }
-    ensures made { Lives (state S.Store db.new) → (a : Archive) → Settled HoldsNothing (state S.Store db.old) a → OnOk result (Settled HoldsSome (state S.Store db.new) a) }
-    ensures err { Lives (state S.Store db.new) → (a : Archive) → Settled HoldsNothing (state S.Store db.old) a → OnErr result (Settled HoldsAny (state S.Store db.new) a) }
+    ensures made { Lives (state S.Store db.new) → (a : Archive) →
+        Settled HoldsNothing (state S.Store db.old) a →
+        OnOk result (Settled HoldsSome (state S.Store db.new) a) }
+    ensures err { Lives (state S.Store db.new) → (a : Archive) →
+        Settled HoldsNothing (state S.Store db.old) a →
+        OnErr result (Settled HoldsAny (state S.Store db.new) a) }
 {
     db.execute(
-        "CREATE TABLE profiles (bench TEXT NOT NULL, name TEXT NOT NULL, body BLOB NOT NULL, PRIMARY KEY (bench, name)) STRICT",
+        "CREATE TABLE profiles (bench TEXT NOT NULL, name TEXT NOT NULL, body BLOB NOT NULL, \
+         PRIMARY KEY (bench, name)) STRICT",
         &[],
     )
 }
 
 fn create_captures<S: Alter>(db: &mut Connection<S>) -> Result<usize, Error>
     ensures continues { Continues (state S.Store db.old) (state S.Store db.new) }
-    ensures made { Lives (state S.Store db.new) → (a : Archive) → Settled HoldsProfiles (state S.Store db.old) a → OnOk result (Settled Holds (state S.Store db.new) a) }
-    ensures err { Lives (state S.Store db.new) → (a : Archive) → Settled HoldsProfiles (state S.Store db.old) a → OnErr result (Settled HoldsAny (state S.Store db.new) a) }
+    ensures made { Lives (state S.Store db.new) → (a : Archive) →
+        Settled HoldsProfiles (state S.Store db.old) a →
+        OnOk result (Settled Holds (state S.Store db.new) a) }
+    ensures err { Lives (state S.Store db.new) → (a : Archive) →
+        Settled HoldsProfiles (state S.Store db.old) a →
+        OnErr result (Settled HoldsAny (state S.Store db.new) a) }
 {
     db.execute(
-        "CREATE TABLE captures (bench TEXT NOT NULL, label TEXT NOT NULL, profile TEXT NOT NULL, body BLOB NOT NULL, PRIMARY KEY (bench, label), FOREIGN KEY (bench, profile) REFERENCES profiles (bench, name)) STRICT",
+        "CREATE TABLE captures (bench TEXT NOT NULL, label TEXT NOT NULL, profile TEXT NOT NULL, \
+         body BLOB NOT NULL, PRIMARY KEY (bench, label), \
+         FOREIGN KEY (bench, profile) REFERENCES profiles (bench, name)) STRICT",
         &[],
     )
 }
 
 fn want_profiles<S: Alter>(db: &mut Connection<S>) -> Result<(), KeepError>
     ensures continues { Continues (state S.Store db.old) (state S.Store db.new) }
-    ensures made { Lives (state S.Store db.new) → (a : Archive) → Settled HoldsAny (state S.Store db.old) a → OnOk result (Settled HoldsSome (state S.Store db.new) a) }
-    ensures err { Lives (state S.Store db.new) → (a : Archive) → Settled HoldsAny (state S.Store db.old) a → OnErr result (Settled HoldsAny (state S.Store db.new) a) }
+    ensures made { Lives (state S.Store db.new) → (a : Archive) →
+        Settled HoldsAny (state S.Store db.old) a →
+        OnOk result (Settled HoldsSome (state S.Store db.new) a) }
+    ensures err { Lives (state S.Store db.new) → (a : Archive) →
+        Settled HoldsAny (state S.Store db.old) a →
+        OnErr result (Settled HoldsAny (state S.Store db.new) a) }
 {
     if has_table(db.schema().tables.as_slice(), b"profiles") {
         return accept(
@@ -79,8 +95,12 @@ fn want_profiles<S: Alter>(db: &mut Connection<S>) -> Result<(), KeepError>
 
 fn want_captures<S: Alter>(db: &mut Connection<S>) -> Result<(), KeepError>
     ensures continues { Continues (state S.Store db.old) (state S.Store db.new) }
-    ensures made { Lives (state S.Store db.new) → (a : Archive) → Settled HoldsSome (state S.Store db.old) a → OnOk result (Settled Holds (state S.Store db.new) a) }
-    ensures err { Lives (state S.Store db.new) → (a : Archive) → Settled HoldsSome (state S.Store db.old) a → OnErr result (Settled HoldsAny (state S.Store db.new) a) }
+    ensures made { Lives (state S.Store db.new) → (a : Archive) →
+        Settled HoldsSome (state S.Store db.old) a →
+        OnOk result (Settled Holds (state S.Store db.new) a) }
+    ensures err { Lives (state S.Store db.new) → (a : Archive) →
+        Settled HoldsSome (state S.Store db.old) a →
+        OnErr result (Settled HoldsAny (state S.Store db.new) a) }
 {
     if has_table(db.schema().tables.as_slice(), b"captures") {
         return accept(
@@ -96,8 +116,12 @@ fn want_captures<S: Alter>(db: &mut Connection<S>) -> Result<(), KeepError>
 /// Makes what is absent, and nothing within a transaction that somebody else began.
 pub(crate) fn make_tables<S: Alter>(db: &mut Connection<S>) -> Result<(), KeepError>
     ensures continues { Continues (state S.Store db.old) (state S.Store db.new) }
-    ensures made { Lives (state S.Store db.new) → (a : Archive) → Settled HoldsAny (state S.Store db.old) a → OnOk result (Settled Holds (state S.Store db.new) a) }
-    ensures err { Lives (state S.Store db.new) → (a : Archive) → Settled HoldsAny (state S.Store db.old) a → OnErr result (Settled HoldsAny (state S.Store db.new) a) }
+    ensures made { Lives (state S.Store db.new) → (a : Archive) →
+        Settled HoldsAny (state S.Store db.old) a →
+        OnOk result (Settled Holds (state S.Store db.new) a) }
+    ensures err { Lives (state S.Store db.new) → (a : Archive) →
+        Settled HoldsAny (state S.Store db.old) a →
+        OnErr result (Settled HoldsAny (state S.Store db.new) a) }
 {
     if !db.is_autocommit() {
         return Err(KeepError::Failed);

@@ -22,7 +22,11 @@ impl Model for HeldProfile {
 
     ghost Value = { Profile };
 
-    ghost view = { λ p. record { bench = string_bytes p.bench; name = string_bytes p.name; bytes = p.bytes.items } };
+    ghost view = { λ p. record {
+      bench = string_bytes p.bench;
+      name = string_bytes p.name;
+      bytes = p.bytes.items;
+    } };
 
     ghost invariant = { λ p. length p.bytes.items ≤ longest_body };
 }
@@ -42,7 +46,12 @@ impl Model for HeldCapture {
 
     ghost Value = { Capture };
 
-    ghost view = { λ c. record { bench = string_bytes c.bench; key = string_bytes c.key; profile = string_bytes c.profile; bytes = c.bytes.items } };
+    ghost view = { λ c. record {
+      bench = string_bytes c.bench;
+      key = string_bytes c.key;
+      profile = string_bytes c.profile;
+      bytes = c.bytes.items;
+    } };
 
     ghost invariant = { λ c. length c.bytes.items ≤ longest_body };
 }
@@ -55,7 +64,11 @@ impl HeldProfile {
         bytes: &[u8],
     ) -> Result<HeldProfile, AllocError>
         requires { length bytes.now ≤ longest_body }
-        ensures { IfOk result (λ p. p ≡ record { bench = bench.now; name = name.now; bytes = bytes.now }) }
+        ensures { IfOk result (λ p. p ≡ record {
+          bench = bench.now;
+          name = name.now;
+          bytes = bytes.now;
+        }) }
     {
         Ok(HeldProfile {
             bench: String::from_str(alloc, bench)?,
@@ -95,7 +108,12 @@ impl HeldCapture {
         bytes: &[u8],
     ) -> Result<HeldCapture, AllocError>
         requires { length bytes.now ≤ longest_body }
-        ensures { IfOk result (λ c. c ≡ record { bench = bench.now; key = key.now; profile = profile.now; bytes = bytes.now }) }
+        ensures { IfOk result (λ c. c ≡ record {
+          bench = bench.now;
+          key = key.now;
+          profile = profile.now;
+          bytes = bytes.now;
+        }) }
     {
         Ok(HeldCapture {
             bench: String::from_str(alloc, bench)?,

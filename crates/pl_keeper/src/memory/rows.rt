@@ -42,7 +42,8 @@ pub(crate) fn count_captures(captures: &[HeldCapture], bench: &str) -> usize
 
 /// The lines of a bench's captures, in the order of storing.
 fn lines(alloc: Global, captures: &[HeldCapture], bench: &str) -> Result<Vec<KeyRow>, AllocError>
-    ensures { IfOk result (λ rows. Lists (filter (λ c. bytes_eq c.bench bench.now) captures.now) rows.items) }
+    ensures { IfOk result (λ rows. Lists (filter
+        (λ c. bytes_eq c.bench bench.now) captures.now) rows.items) }
 {
     let mut rows = Vec::new(alloc);
     for held in captures {
@@ -59,7 +60,8 @@ pub(crate) fn sorted_lines(
     captures: &[HeldCapture],
     bench: &str,
 ) -> Result<Vec<KeyRow>, AllocError>
-    ensures listed { IfOk result (λ rows. Lists (filter (λ c. bytes_eq c.bench bench.now) captures.now) rows.items) }
+    ensures listed { IfOk result (λ rows. Lists (filter
+        (λ c. bytes_eq c.bench bench.now) captures.now) rows.items) }
     ensures ascending { IfOk result (λ rows. Ascends rows.items) }
 {
     let mut rows = lines(alloc, captures, bench)?;
