@@ -113,8 +113,8 @@ impl Sequence {
         }
     }
 
-    /// Where a whole TLP stands that lies so far behind the next one, but not at 0. Apart, since most
-    /// TLPs have the next number.
+    /// Where a whole TLP stands that lies so far behind the next one, but not at 0. Apart, since
+    /// most TLPs have the next number.
     #[cold]
     #[inline(never)]
     fn place_behind(&self, back: u16) -> Place
