@@ -1,5 +1,5 @@
 -- Positions that rise, as TLPs come and go.
-use Rattle.std.proofs.Common.{◌≡◌, ℕ, zero, suc, ◌<◌, ◌≤◌, List, [], ◌∷◌, ◌++◌, drop, arith}
+use Rattle.std.proofs.Common.{ℕ, zero, suc, ◌<◌, ◌≤◌, List, [], ◌∷◌, ◌++◌, drop, arith}
 use Rattle.pl_seq.specs.Sent.{Sent}
 use Rattle.pl_seq.specs.Lane.{Rise}
 

@@ -1,7 +1,7 @@
 //! The sequence numbers of a run: TLPs of one direction that are numbered one after the other.
 //! PCI Express Base Specification 5.0, chapter 3: sequence numbers, Ack and Nak.
 ghost use Rattle.std.specs.Prelude.{◌≡◌, ◌+◌, ◌-◌, ◌<◌, ◌≤◌, Bool, IfSome, is_some};
-ghost use Rattle.pl_seq.specs.Runs.{advance, empty_run, has_original, is_ahead, is_confirmed};
+ghost use Rattle.pl_seq.specs.Runs.{empty_run, has_original, is_ahead, is_confirmed};
 ghost use Rattle.pl_seq.specs.Runs.{is_sure, is_valid, newly_answered, original_place_of};
 ghost use Rattle.pl_seq.specs.Runs.{place_behind, place_of, with_answered, with_taken};
 
@@ -113,7 +113,10 @@ impl Sequence {
         }
     }
 
-    /// Where a whole TLP stands that lies so far behind the next one, but not at 0.
+    /// Where a whole TLP stands that lies so far behind the next one, but not at 0. Apart, since
+    /// most TLPs have the next number.
+    #[cold]
+    #[inline(never)]
     fn place_behind(&self, back: u16) -> Place
         ensures { result ≡ place_behind self.now back }
     {

@@ -1,4 +1,4 @@
-use Rattle.std.proofs.Common.{◌≡◌, ap, arith}
+use Rattle.std.proofs.Common.{ap, arith}
 use Rattle.pl_seq.specs.Lane.{Kept, latest_position}
 use Rattle.pl_seq.proofs.Rising.{rise-to}
 use Rattle.pl_seq.proofs.lane.Lane.drop_tlp.Goals as goal

@@ -1,4 +1,4 @@
-use Rattle.std.proofs.Common.{◌≤◌, ℕ, List, drop, length, ap, sym, subst, arith, length-drop}
+use Rattle.std.proofs.Common.{List, ap, sym, subst, arith, length-drop}
 use Rattle.pl_seq.specs.Sent.{Sent}
 use Rattle.pl_seq.specs.Runs.{Run}
 use Rattle.pl_seq.specs.Lane.{Rise, latest_position}
