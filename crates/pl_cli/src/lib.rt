@@ -7,11 +7,14 @@ mod command_line;
 mod commands;
 mod item;
 mod judging;
+mod number;
 mod profile;
 pub mod status;
+mod trial;
 mod view;
 mod with_engine;
 
 pub use command_line::run;
 pub use commands::{check, list, report};
+pub use trial::trial;
 pub use with_engine::{check_with, list_with, report_with};
