@@ -109,6 +109,15 @@ trial_by {T = T} {out = out} {out'} {answer} number count (tries m d is' same t)
 
 -- ---- from the words of the command line
 
+-- a number that isn't one of the counts
+pub out_of_range : (word : List ℕ) (m : ℕ) → word ≡ decimal m → m < 2 ^ 64 → (1 ≤ m → m ≤ 1000000 → ⊥) → IsCountOf word None
+out_of_range word m is small out n some most e =
+    let same : m ≡ n = decimal_injective m n small (omega (arith, most)) (sym is ∙ e) in
+    out (subst (λ (k : ℕ). 1 ≤ k) (sym same) some) (subst (λ (k : ℕ). k ≤ 1000000) (sym same) most)
+
+pub no_count_at_all : (word : List ℕ) → IsNumberOf word None → IsCountOf word None
+no_count_at_all word none n some most e = none n (omega (arith, most)) e
+
 module _ (words : List (Bor (List ℕ))) (d : Bor (List ℕ)) where
   pub is_trial : (number count : ℕ) → Begins (texts words) (codes "trial") 3 → (get_or words 1 d).now ≡ decimal number → number < 2 ^ 64 →
       (get_or words 2 d).now ≡ decimal count → 1 ≤ count → count ≤ 1000000 → IsTrial (texts words) number count

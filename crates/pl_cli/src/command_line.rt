@@ -24,9 +24,9 @@ ghost use Rattle.pl_cli.specs.Words.{OpensBoth, RunsCleanly, nothing_read, whole
 
 use crate::closing::write_last;
 use crate::commands::{check, list, report};
-use crate::number::{count, number};
+use crate::generated::trial;
+use crate::numbers::{count, number};
 use crate::status::{CLEAN, FILTER, NO_MEMORY, PROFILE, READ_FAULT, USAGE, WRITE_FAULT};
-use crate::trial::trial;
 use pl_io::{Shelf, Sink};
 use pl_report::usage_line;
 use std::alloc::Global;
