@@ -1,7 +1,5 @@
 //! Generated captures: what `trial` reports of them, and which words ask for one.
 use crate::desk::{Calls, EMPTY, Outcome, run_words};
-use pl_io::Shelf;
-use pl_make::Maker;
 use std::alloc::{AllocError, Global};
 use std::test::Fail;
 
@@ -10,29 +8,19 @@ fn run(alloc: Global, words: &[&str]) -> Result<Outcome, AllocError> {
     run_words(alloc, words, &EMPTY, Calls::whole(), Calls::whole())
 }
 
-/// The capture of so many rounds that is drawn from a number.
-fn generated(alloc: Global, number: u64) -> Result<Vec<u8>, Fail> {
-    let mut maker = Maker::new(number, 20);
-    let mut bytes = Vec::new(alloc);
-    let mut buffer = [0; 100];
-    maker.open("any").ok().ok_or("it wasn't opened")?;
-    for _ in 0..200 {
-        let count = maker.read(&mut buffer).ok().ok_or("a read failed")?;
-        bytes.extend_from_slice(&buffer[..count])?;
-    }
-    Ok(bytes)
-}
-
 #[test]
 fn a_trial_counts_what_its_rounds_hold(rt: HostRuntime) -> Result<(), Fail> {
     let outcome = run(rt.alloc(), &["trial", "1", "500"])?;
     assert!(rt; outcome.status == 0, "{outcome:?}");
-    assert!(rt; outcome.has_lines(
-        "items 3012; tlp down 1000 up 500; dllp down 1006 up 506; link down 0; \
-         taken down 1000 up 500; repeat down 0 up 0; stray down 0 up 0; spoiled down 0 up 0; \
-         nullified down 0 up 0; most outstanding 1; most unacknowledged down 2 up 1; \
-         end items 3012 verdicts 0"
-    ), "{outcome:?}");
+    assert!(rt;
+        outcome.has_lines(
+            "items 3012; tlp down 1000 up 500; dllp down 1006 up 506; link down 0; \
+             taken down 1000 up 500; repeat down 0 up 0; stray down 0 up 0; spoiled down 0 up 0; \
+             nullified down 0 up 0; most outstanding 1; most unacknowledged down 2 up 1; \
+             end items 3012 verdicts 0"
+        ),
+        "{outcome:?}"
+    );
     Ok(())
 }
 
@@ -41,30 +29,15 @@ fn a_trial_may_be_of_one_round_and_of_any_number(rt: HostRuntime) -> Result<(), 
     for number in ["0", "1", "18446744073709551615"] {
         let outcome = run(rt.alloc(), &["trial", number, "1"])?;
         assert!(rt; outcome.status == 0, "{outcome:?}");
-        assert!(rt; outcome.has_lines(
-            "items 18; tlp down 2 up 1; dllp down 8 up 7; link down 0; taken down 2 up 1; \
-             repeat down 0 up 0; stray down 0 up 0; spoiled down 0 up 0; nullified down 0 up 0; \
-             most outstanding 1; most unacknowledged down 2 up 1; end items 18 verdicts 0"
-        ), "{outcome:?}");
-    }
-    Ok(())
-}
-
-#[test]
-fn a_trial_is_the_report_of_the_same_bytes(rt: HostRuntime) -> Result<(), Fail> {
-    for (number, word) in [(7, "7"), (12_345_678_901_234_567_890, "12345678901234567890")] {
-        let capture = generated(rt.alloc(), number)?;
-        let report = run_words(
-            rt.alloc(),
-            &["report", "-", "capture"],
-            &capture,
-            Calls::whole(),
-            Calls::whole(),
-        )?;
-        let trial = run(rt.alloc(), &["trial", word, "20"])?;
-        assert_eq!(rt; report.status, 0);
-        assert_eq!(rt; trial.status, 0);
-        assert!(rt; trial.output.as_slice() == report.output.as_slice(), "{trial:?} {report:?}");
+        assert!(rt;
+            outcome.has_lines(
+                "items 18; tlp down 2 up 1; dllp down 8 up 7; link down 0; taken down 2 up 1; \
+                 repeat down 0 up 0; stray down 0 up 0; spoiled down 0 up 0; \
+                 nullified down 0 up 0; most outstanding 1; most unacknowledged down 2 up 1; \
+                 end items 18 verdicts 0"
+            ),
+            "{outcome:?}"
+        );
     }
     Ok(())
 }
@@ -91,7 +64,11 @@ fn other_words_than_two_numbers_in_their_ranges_are_no_trial(rt: HostRuntime) ->
         let outcome = run(rt.alloc(), &["trial", number, count])?;
         assert!(rt; outcome.is(2, USAGE), "{number} {count}: {outcome:?}");
     }
-    for words in [["trial"].as_slice(), &["trial", "1"], &["trial", "1", "1", "1"]] {
+    for words in [
+        ["trial"].as_slice(),
+        &["trial", "1"],
+        &["trial", "1", "1", "1"],
+    ] {
         let outcome = run(rt.alloc(), words)?;
         assert!(rt; outcome.is(2, USAGE), "{outcome:?}");
     }
