@@ -28,4 +28,6 @@ mod profile;
 #[cfg(test)]
 mod sequence;
 #[cfg(test)]
+mod trial;
+#[cfg(test)]
 mod views;

@@ -17,12 +17,13 @@ use Rattle.pl_filter.specs.Trees.{Tree}
 use Rattle.pl_filter.specs.declared.error.FilterError.{FilterError}
 use Rattle.pl_filter.proofs.Unique.{answer_is_read}
 use Rattle.pl_cli.specs.Output.{Check, Listing, Report, View, cut, output, status_of}
-use Rattle.pl_cli.specs.Promise.{Answers, HasFilter, IsCheck, IsCommand, IsList, IsNoCommand, IsReport, Judges, Opens, ProfileIs, ProfileUnread, Reads, ReadsProfile, Runs, Shows, filter_refused, is_dash, judged, no_command, no_filter, no_memory, profile_read, profile_refused, profile_unread, shows, unread}
+use Rattle.pl_cli.specs.Promise.{Answers, HasFilter, IsCheck, IsCommand, IsList, IsNoCommand, IsReport, Judges, Opens, ProfileIs, ProfileUnread, Reads, ReadsProfile, Runs, Shows, filter_refused, is_dash, judged, no_command, no_filter, no_memory, profile_read, profile_refused, profile_unread, shows, tries, unread}
 use Rattle.pl_cli.specs.Source.{profile_under}
 use Rattle.pl_cli.specs.Words.{AreThere, CutAt, FilterIsRead, Gives, GivesPart, IsJudged, IsUnrisen, OpensBoth, RunsCleanly, after_profile, nothing_read, whole_text}
 use Rattle.pl_cli.proofs.CommandWords.{clean_file, not_risen}
 use Rattle.pl_cli.proofs.Judged.{cut_nothing, judged_status}
 use Rattle.pl_cli.proofs.Tops.{front_ahead}
+use Rattle.pl_cli.proofs.Trials.{command_trial}
 
 -- ---- what was written
 
@@ -180,6 +181,7 @@ module _ {H O : Type 0} {S : shelf.Ghosts H} {T : sink.Ghosts O} {old new : H} {
   of_command v profile capture is (filter_refused filter e has bad same a) = absurd (refused_filter v profile capture filter e is has bad)
   of_command v profile capture is (no_filter filter has same none is9) = lacks same none is9 (lacking_filter v profile capture filter is has is9)
   of_command v profile capture is (shows w p c is' r) = shown_by _ v w profile capture p c is is' r
+  of_command v profile capture is (tries n c is' same t) = absurd (command_trial v profile capture is is')
 
 -- What came of a profile and a capture that are told.
 pub data Came {H O : Type 0} (S : shelf.Ghosts H) (T : sink.Ghosts O) (v : View) (p : Profile) (profile capture bytes : List ℕ)

@@ -13,5 +13,6 @@ pub mod Profiles
 pub mod Judged
 pub mod CommandWords
 pub mod Shown
+pub mod Trials
 pub mod Headline
 pub mod Statuses

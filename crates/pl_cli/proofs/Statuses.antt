@@ -10,11 +10,13 @@ use Rattle.pl_profile.specs.Refusal.{number_of}
 use Rattle.pl_profile.specs.declared.error.ProfileError.{ProfileError}
 use Rattle.pl_profile.specs.declared.profile.Profile.{Profile}
 use Rattle.pl_filter.specs.declared.error.FilterError.{FilterError}
+use Rattle.pl_make.specs.Generated.{Gen}
 use Rattle.pl_report.specs.Lines.{filter_error_text, profile_error_text, read_fault_text, usage_text}
 use Rattle.pl_cli.specs.Output.{View, cut, output, status_of}
-use Rattle.pl_cli.specs.Promise.{Answers, IsCommand, IsNoCommand, Opens, ProfileIs, Runs, filter_refused, is_dash, judged, no_command, no_filter, no_memory, profile_read, profile_refused, profile_unread, shows, unread}
-use Rattle.pl_cli.specs.Words.{Gives, GivesPart, IsJudged, IsRefused, LacksFilter, LacksProfile, OpensBoth}
+use Rattle.pl_cli.specs.Promise.{Answers, IsCommand, IsNoCommand, Opens, ProfileIs, Runs, filter_refused, is_dash, judged, no_command, no_engine, no_filter, no_memory, profile_read, profile_refused, profile_unread, reported, shows, trial_status, trial_text, tries, unread}
+use Rattle.pl_cli.specs.Words.{Gives, GivesPart, IsGenerated, IsJudged, IsRefused, LacksEngine, LacksFilter, LacksProfile, OpensBoth}
 use Rattle.pl_cli.proofs.Judged.{judged_status}
+use Rattle.pl_cli.proofs.Trials.{filter_trial, trial_never}
 use Rattle.pl_cli.proofs.Headline.{gives, gives_part, kept_if_room, none_by, not_judged, one_refusal, opens_both, refused_filter}
 
 -- what was answered: with a text, or for want of memory
@@ -36,6 +38,8 @@ answered (shows v profile capture is (profile_refused e ne p r a)) = with_text (
 answered (shows v profile capture is (no_memory r same is9)) = without same is9
 answered (shows v profile capture is (profile_read p between i r (judged bytes c a))) = with_text (output v p bytes) (status_of p bytes) a (inl (low _ (judged_status p bytes)))
 answered (shows v profile capture is (profile_read p between i r (unread read c a))) = with_text (cut v p read) 7 a (inl (omega arith))
+answered (tries n c is same (no_engine none is9)) = without none is9
+answered (tries n c is same (reported a)) = with_text (trial_text n c) (trial_status n c) a (inl (low _ (judged_status usual_profile (Gen n c))))
 
 write_fault_of : {O : Type 0} {T : sink.Ghosts O} {out out' : O} {answer : ℕ} → Answered T out out' answer → answer ≡ 8 → Rose (T.faults out) (T.faults out')
 write_fault_of (with_text text status a known) is8 = a.rose is8
@@ -93,12 +97,14 @@ module _ {H O : Type 0} {S : shelf.Ghosts H} {T : sink.Ghosts O} {words : List (
   usage_by (filter_refused filter e has bad same a) h = absurd (h.no_list filter has)
   usage_by (no_filter filter has same none is9) h = absurd (h.no_list filter has)
   usage_by (shows v profile capture is r) h = absurd (none_by v profile capture is h)
+  usage_by (tries n c is same t) h = absurd (h.no_trial n c is)
 
   pub none_opened_by : Runs S T words old new out out' answer → IsNoCommand words → new ≡ old
   none_opened_by (no_command none same a) h = same
   none_opened_by (filter_refused filter e has bad same a) h = same
   none_opened_by (no_filter filter has same none is9) h = same
   none_opened_by (shows v profile capture is r) h = absurd (none_by v profile capture is h)
+  none_opened_by (tries n c is same t) h = same
 
   pub usage_room_by : Runs S T words old new out out' answer → IsNoCommand words → HasRoom (T.room out) (length usage_text) → T.faults out' ≡ T.faults out
   usage_room_by r h room = kept_if_room (usage_by r h) room
@@ -125,6 +131,7 @@ module _ {H O : Type 0} {S : shelf.Ghosts H} {T : sink.Ghosts O} {words : List (
   usage_only_by (shows v profile capture is (profile_read p between i r (judged bytes c a))) is2 =
       absurd (not_judged _ answer (judged_status p bytes) (a.answered (λ h. omega arith)) (inr (inr (inr is2))))
   usage_only_by (shows v profile capture is (profile_read p between i r (unread read c a))) is2 = let k = a.answered (λ h. omega arith) in absurd (omega (arith, k))
+  usage_only_by (tries n c is same t) is2 = absurd (trial_never 2 t is2 (inr (inr (inr refl))))
 
   pub read_fault_by : Runs S T words old new out out' answer → answer ≡ 7 → Rose (S.faults old) (S.faults new)
   read_fault_by (no_command none same a) is7 = let k = a.answered (λ h. omega arith) in absurd (omega (arith, k))
@@ -136,6 +143,7 @@ module _ {H O : Type 0} {S : shelf.Ghosts H} {T : sink.Ghosts O} {words : List (
   read_fault_by (shows v profile capture is (profile_read p between i r (judged bytes c a))) is7 =
       absurd (not_judged _ answer (judged_status p bytes) (a.answered (λ h. omega arith)) (inl is7))
   read_fault_by (shows v profile capture is (profile_read p between i r (unread read c a))) is7 = subst (λ (n : ℕ). Rose n (S.faults new)) r.kept c.rose
+  read_fault_by (tries n c is same t) is7 = absurd (trial_never 7 t is7 (inl refl))
 
   pub shelf_kept_by : Runs S T words old new out out' answer → answer ≢ 7 → answer ≢ 8 → S.faults new ≡ S.faults old
   shelf_kept_by (no_command none same a) n7 n8 = ap S.faults same
@@ -146,17 +154,20 @@ module _ {H O : Type 0} {S : shelf.Ghosts H} {T : sink.Ghosts O} {words : List (
   shelf_kept_by (shows v profile capture is (no_memory r same is9)) n7 n8 = r.kept
   shelf_kept_by (shows v profile capture is (profile_read p between i r (judged bytes c a))) n7 n8 = c.kept ∙ r.kept
   shelf_kept_by (shows v profile capture is (profile_read p between i r (unread read c a))) n7 n8 = absurd (n7 (a.answered n8))
+  shelf_kept_by (tries n c is same t) n7 n8 = ap S.faults same
 
-  pub unopened_by : Runs S T words old new out out' answer → answer ≡ 9 → LacksFilter words old new ⊎ LacksProfile S words old new
+  pub unopened_by : Runs S T words old new out out' answer → answer ≡ 9 →
+      LacksFilter words old new ⊎ (LacksProfile S words old new ⊎ LacksEngine words old new)
   unopened_by (no_command none same a) is9 = let k = a.answered (λ h. omega arith) in absurd (omega (arith, k))
   unopened_by (filter_refused filter e has bad same a) is9 = let k = a.answered (λ h. omega arith) in absurd (omega (arith, k))
   unopened_by (no_filter filter has same none is9') is9 = inl (filter, has, same)
   unopened_by (shows v profile capture is (profile_unread u a)) is9 = let k = a.answered (λ h. omega arith) in absurd (omega (arith, k))
   unopened_by (shows v profile capture is (profile_refused e ne p r a)) is9 = let k = a.answered (λ h. omega arith) in absurd (omega (arith, k))
-  unopened_by (shows v profile capture is (no_memory r same is9')) is9 = inr (v, profile, capture, is, r)
+  unopened_by (shows v profile capture is (no_memory r same is9')) is9 = inr (inl (v, profile, capture, is, r))
   unopened_by (shows v profile capture is (profile_read p between i r (judged bytes c a))) is9 =
       absurd (not_judged _ answer (judged_status p bytes) (a.answered (λ h. omega arith)) (inr (inr (inl is9))))
   unopened_by (shows v profile capture is (profile_read p between i r (unread read c a))) is9 = let k = a.answered (λ h. omega arith) in absurd (omega (arith, k))
+  unopened_by (tries n c is same t) is9 = inr (inr (n, c, is, same))
 
   pub one_opened_by : Runs S T words old new out out' answer → answer ≡ 3 →
       (v : View) × (profile : List ℕ) × (capture : List ℕ) × IsCommand words v profile capture × Opens S profile old new × (S.is_open new ≡ true)
@@ -170,18 +181,20 @@ module _ {H O : Type 0} {S : shelf.Ghosts H} {T : sink.Ghosts O} {words : List (
   one_opened_by (shows v profile capture is (profile_read p between i r (judged bytes c a))) is3 =
       absurd (not_judged _ answer (judged_status p bytes) (a.answered (λ h. omega arith)) (inr (inl is3)))
   one_opened_by (shows v profile capture is (profile_read p between i r (unread read c a))) is3 = let k = a.answered (λ h. omega arith) in absurd (omega (arith, k))
+  one_opened_by (tries n c is same t) is3 = absurd (trial_never 3 t is3 (inr (inl refl)))
 
-  pub both_opened_by : Runs S T words old new out out' answer → IsJudged answer →
-      (v : View) × (profile : List ℕ) × (capture : List ℕ) × IsCommand words v profile capture × OpensBoth S profile capture old new × (S.is_open new ≡ true)
+  pub both_opened_by : Runs S T words old new out out' answer → IsJudged answer → IsGenerated words
+      ⊎ ((v : View) × (profile : List ℕ) × (capture : List ℕ) × IsCommand words v profile capture × OpensBoth S profile capture old new × (S.is_open new ≡ true))
   both_opened_by (no_command none same a) h = absurd (not_this answer 2 h (a.answered (judged_not_8 answer h)) (inl refl))
   both_opened_by (filter_refused filter e has bad same a) h = absurd (not_12 answer h (a.answered (judged_not_8 answer h)))
   both_opened_by (no_filter filter has same none is9) h = absurd (not_this answer 9 h is9 (inr (inr (inr refl))))
   both_opened_by (shows v profile capture is (profile_unread u a)) h = absurd (not_this answer 7 h (a.answered (judged_not_8 answer h)) (inr (inr (inl refl))))
   both_opened_by (shows v profile capture is (profile_refused e ne p r a)) h = absurd (not_this answer 3 h (a.answered (judged_not_8 answer h)) (inr (inl refl)))
   both_opened_by (shows v profile capture is (no_memory r same is9)) h = absurd (not_this answer 9 h is9 (inr (inr (inr refl))))
-  both_opened_by (shows v profile capture is (profile_read p between i r (judged bytes c a))) h = (v, profile, capture, is, opens_both r c.opens, c.is_open)
+  both_opened_by (shows v profile capture is (profile_read p between i r (judged bytes c a))) h = inr (v, profile, capture, is, opens_both r c.opens, c.is_open)
   both_opened_by (shows v profile capture is (profile_read p between i r (unread read c a))) h =
       absurd (not_this answer 7 h (a.answered (judged_not_8 answer h)) (inr (inr (inl refl))))
+  both_opened_by (tries n c is same t) h = inl (n, c, is)
 
   -- ---- a filter that is refused
 
@@ -193,6 +206,7 @@ module _ {H O : Type 0} {S : shelf.Ghosts H} {T : sink.Ghosts O} {words : List (
       (same, inl (subst (λ (x : FilterError). Answers T (filter_error_text x) 12 out out' answer) (one_refusal filter h.0 d e has h.1 bad h.2) a))
   refused_as e (no_filter filter has same none is9) h = (same, inr (none, is9))
   refused_as e (shows v profile capture is r) h = absurd (refused_filter v profile capture h.0 e is h.1 h.2)
+  refused_as e (tries n c is same t) h = absurd (filter_trial h.0 h.1 is)
 
   pub filter_by : (e : FilterError) → Runs S T words old new out out' answer → IsRefused words e → answer ≢ 8 → answer ≢ 9 →
       Gives (filter_error_text e) 12 (T.written out) (T.written out') answer
@@ -218,3 +232,4 @@ module _ {H O : Type 0} {S : shelf.Ghosts H} {T : sink.Ghosts O} {words : List (
   filter_only_by (shows v profile capture is (profile_read p between i r (judged bytes c a))) is12 =
       absurd (not_12 (status_of p bytes) (judged_status p bytes) (sym (a.answered (λ h. omega arith)) ∙ is12))
   filter_only_by (shows v profile capture is (profile_read p between i r (unread read c a))) is12 = let k = a.answered (λ h. omega arith) in absurd (omega (arith, k))
+  filter_only_by (tries n c is same t) is12 = absurd (trial_never 12 t is12 (inr (inr (inl refl))))

@@ -1,7 +1,7 @@
 -- What a command promises: of all that it may come to, what it read, wrote and answers.
 -- The shelf and the sink are seen by what they tell of themselves, before and after.
-use Rattle.std.specs.Prelude.{◌≡◌, ◌≢◌, ◌≤◌, ℕ, map, List, [], ◌∷◌, ◌++◌, codes, length, Bool}
-use Rattle.std.specs.Prelude.{slice_get}
+use Rattle.std.specs.Prelude.{◌≡◌, ◌≢◌, ◌≤◌, ◌<◌, ℕ, ◌^◌, map, List, [], ◌∷◌, ◌++◌, codes, length}
+use Rattle.std.specs.Prelude.{Bool, decimal, slice_get}
 use Rattle.std.specs.Prelude.{true, false, Option, Some, IsSome, Result, Ok, Err, bytes_eq}
 use Rattle.std.specs.Borrow.{Bor}
 use Rattle.pl_io.specs.declared.shelf.Shelf as shelf
@@ -17,6 +17,7 @@ use Rattle.pl_profile.specs.ProfileOf.{profile_of, usual_profile}
 use Rattle.pl_filter.specs.Answers.{IsAnswer}
 use Rattle.pl_filter.specs.Trees.{Tree}
 use Rattle.pl_filter.specs.declared.error.FilterError.{FilterError}
+use Rattle.pl_make.specs.Generated.{Gen}
 use Rattle.pl_report.specs.Lines.{filter_error_text, profile_error_text, read_fault_text}
 use Rattle.pl_report.specs.Lines.{usage_text}
 use Rattle.pl_cli.specs.declared.status.TheConstants.{FILTER, NO_MEMORY, PROFILE, READ_FAULT}
@@ -42,6 +43,14 @@ IsList words profile capture filter = words ≡ codes "list" ∷ profile ∷ cap
 abbrev pub IsReport : List (List ℕ) → List ℕ → List ℕ → Type 0
 IsReport words profile capture = words ≡ codes "report" ∷ profile ∷ capture ∷ []
 
+-- `trial NUMBER COUNT`: 0 to 2^64 - 1 and 1 to 1,000,000, each spelled as it is printed, so with
+-- neither a sign nor a leading zero
+pub record IsTrial (words : List (List ℕ)) (number count : ℕ) : Type 0 where
+  pub spelled : words ≡ codes "trial" ∷ decimal number ∷ decimal count ∷ []
+  pub number_fits : number < 2 ^ 64
+  pub some : 1 ≤ count
+  pub most : count ≤ 1000000
+
 -- the words ask for this view of a capture under a profile
 abbrev pub IsCommand : List (List ℕ) → View → List ℕ → List ℕ → Type 0
 IsCommand words Check profile capture = IsCheck words profile capture
@@ -63,6 +72,7 @@ pub record IsNoCommand (words : List (List ℕ)) : Type 0 where
   pub no_check : (profile capture : List ℕ) → IsCheck words profile capture → ⊥
   pub no_list : (filter : List ℕ) → HasFilter words filter → ⊥
   pub no_report : (profile capture : List ℕ) → IsReport words profile capture → ⊥
+  pub no_trial : (number count : ℕ) → IsTrial words number count → ⊥
 
 -- a dash names the usual profile, and no file
 abbrev pub is_dash : List ℕ → Bool
@@ -206,6 +216,20 @@ pub data Lists {H O : Type 0} (S : shelf.Ghosts H) (T : sink.Ghosts O)
       → Shows S T (Listing f) profile capture old new out out' answer
       → Lists S T profile capture filter old new out out' answer
 
+-- what is written of a generated capture, and the status: its report under the usual profile
+abbrev pub trial_text : ℕ → ℕ → List ℕ
+trial_text number count = output Report usual_profile (Gen number count)
+
+abbrev pub trial_status : ℕ → ℕ → ℕ
+trial_status number count = status_of usual_profile (Gen number count)
+
+-- `trial`: these, since the capture's bytes can always be read; or memory was wanting for the engine.
+pub data Trials {O : Type 0} (T : sink.Ghosts O) (number count : ℕ) (out out' : O) (answer : ℕ)
+    : Type 0 where
+  no_engine : out' ≡ out → answer ≡ NO_MEMORY → Trials T number count out out' answer
+  reported : Answers T (trial_text number count) (trial_status number count) out out' answer
+      → Trials T number count out out' answer
+
 -- Whatever the words are.
 pub data Runs {H O : Type 0} (S : shelf.Ghosts H) (T : sink.Ghosts O) (words : List (List ℕ))
     (old new : H) (out out' : O) (answer : ℕ) : Type 0 where
@@ -221,4 +245,7 @@ pub data Runs {H O : Type 0} (S : shelf.Ghosts H) (T : sink.Ghosts O) (words : L
       → Runs S T words old new out out' answer
   shows : (view : View) (profile capture : List ℕ) → IsCommand words view profile capture
       → Shows S T view profile capture old new out out' answer
+      → Runs S T words old new out out' answer
+  tries : (number count : ℕ) → IsTrial words number count → new ≡ old
+      → Trials T number count out out' answer
       → Runs S T words old new out out' answer

@@ -18,7 +18,8 @@ use Rattle.pl_cli.specs.declared.status.TheConstants.{UNSUPPORTED, WRITE_FAULT}
 use Rattle.pl_cli.specs.Output.{AtFault, Check, Fault, Listing, Report, View, cause, cut, limit}
 use Rattle.pl_cli.specs.Output.{output, summary, tally_after}
 use Rattle.pl_cli.specs.Progress.{ReadOf}
-use Rattle.pl_cli.specs.Promise.{HasFilter, IsCommand, ProfileUnread, ReadsProfile, is_dash}
+use Rattle.pl_cli.specs.Promise.{HasFilter, IsCommand, IsTrial, ProfileUnread, ReadsProfile}
+use Rattle.pl_cli.specs.Promise.{is_dash}
 use Rattle.pl_cli.specs.Source.{profile_under}
 
 -- The words ask for this view of a capture, and the shelf tells its files: the profile is this one,
@@ -141,3 +142,12 @@ abbrev pub LacksProfile : {H : Type 0} → shelf.Ghosts H → List (List ℕ) �
 LacksProfile S words old new =
     (view : View) × (profile : List ℕ) × (capture : List ℕ)
     × IsCommand words view profile capture × ReadsProfile S profile old new
+
+-- Or for the engine of a generated capture, for which nothing is opened.
+abbrev pub LacksEngine : {H : Type 0} → List (List ℕ) → H → H → Type 0
+LacksEngine words old new =
+    (number : ℕ) × (count : ℕ) × IsTrial words number count × (new ≡ old)
+
+-- the words ask for a generated capture
+abbrev pub IsGenerated : List (List ℕ) → Type 0
+IsGenerated words = (number : ℕ) × (count : ℕ) × IsTrial words number count

@@ -5,21 +5,27 @@ ghost use Rattle.pl_io.specs.Faults.{Rose};
 ghost use Rattle.pl_io.specs.Told.{HasRoom};
 ghost use Rattle.pl_profile.specs.Refusal.{number_of};
 ghost use Rattle.pl_profile.specs.declared.error.ProfileError as declared;
+ghost use Rattle.pl_profile.specs.ProfileOf.{usual_profile};
 ghost use Rattle.pl_profile.specs.declared.profile.Profile as named;
 ghost use Rattle.pl_filter.specs.declared.error.FilterError as filtering;
 ghost use Rattle.pl_report.specs.Lines.{filter_error_text, profile_error_text, read_fault_text};
 ghost use Rattle.pl_report.specs.Lines.{usage_text};
+ghost use Rattle.pl_make.specs.Generated.{Gen};
+ghost use Rattle.pl_cli.specs.Numbers.{IsTrialOf};
 ghost use Rattle.pl_cli.specs.Output.{View, output, status_of};
-ghost use Rattle.pl_cli.specs.Promise.{Answers, Begins, IsCommand, IsNoCommand, Opens};
-ghost use Rattle.pl_cli.specs.Promise.{ProfileUnread, Runs, texts};
+ghost use Rattle.pl_cli.specs.Promise.{Answers, Begins, IsCommand, IsNoCommand, IsTrial, Opens};
+ghost use Rattle.pl_cli.specs.Promise.{ProfileUnread, Runs, Trials, texts, trial_status, trial_text};
 ghost use Rattle.pl_cli.specs.Source.{profile_under};
 ghost use Rattle.pl_cli.specs.Words.{AreThere, Asks, FilterIsRead, Gives, GivesCut, GivesFault};
 ghost use Rattle.pl_cli.specs.Words.{GivesPart, GivesPartOfCut, GivesPartOfFault, IsJudged};
-ghost use Rattle.pl_cli.specs.Words.{IsRefused, IsUnrisen, LacksFilter, LacksProfile, NoFault};
+ghost use Rattle.pl_cli.specs.Words.{IsGenerated, IsRefused, IsUnrisen, LacksEngine};
+ghost use Rattle.pl_cli.specs.Words.{LacksFilter, LacksProfile, NoFault};
 ghost use Rattle.pl_cli.specs.Words.{OpensBoth, RunsCleanly, nothing_read, whole_text};
 
 use crate::closing::write_last;
 use crate::commands::{check, list, report};
+use crate::generated::trial;
+use crate::numbers::{count, number};
 use crate::status::{CLEAN, FILTER, NO_MEMORY, PROFILE, READ_FAULT, USAGE, WRITE_FAULT};
 use pl_io::{Shelf, Sink};
 use pl_report::usage_line;
@@ -31,7 +37,8 @@ use std::alloc::Global;
 /// The commands are `check PROFILE CAPTURE`, `list PROFILE CAPTURE FILTER` and `report PROFILE
 /// CAPTURE`. For every profile, every capture and every way in which its bytes are cut, what is
 /// written is exactly what the command's view shows of the verdicts that the rules give over the
-/// whole list of items, and then the closing line or that of the refusal.
+/// whole list of items, and then the closing line or that of the refusal. `trial NUMBER COUNT` is
+/// the report of a generated capture under the usual profile, for which no file is opened.
 pub fn run<H: Shelf, O: Sink>(alloc: Global, words: &[&str], shelf: &mut H, out: &mut O) -> u8
     // All that is promised, whatever the words are and whatever it comes to. The other clauses say
     // what that is in words of the profile and the capture.
@@ -52,6 +59,8 @@ pub fn run<H: Shelf, O: Sink>(alloc: Global, words: &[&str], shelf: &mut H, out:
     ensures filter_line { (e : filtering.FilterError) → IsRefused (texts words.now) e →
         result ≢ WRITE_FAULT → result ≢ NO_MEMORY →
         Gives (filter_error_text e) FILTER (O.written out.old) (O.written out.new) result }
+    ensures trial { (number count : ℕ) → IsTrial (texts words.now) number count →
+        Trials O.Sink number count out.old out.new result }
     ensures usage { IsNoCommand (texts words.now) →
         Answers O.Sink usage_text USAGE out.old out.new result }
 
@@ -59,6 +68,8 @@ pub fn run<H: Shelf, O: Sink>(alloc: Global, words: &[&str], shelf: &mut H, out:
     // breaks at any item.
     ensures clean { (view : View) (p : named.Profile) (b : List ℕ) →
         Asks H.Shelf (texts words.now) shelf.old view p b → result ≡ CLEAN → RunsCleanly p b }
+    ensures trial_clean { (number count : ℕ) → IsTrial (texts words.now) number count →
+        result ≡ CLEAN → RunsCleanly usual_profile (Gen number count) }
 
     // 3. A fault of the shelf or of the sink is answered only where it was counted. What stands
     // then is the text of what was read of the capture, or `read fault` alone where the profile
@@ -108,20 +119,24 @@ pub fn run<H: Shelf, O: Sink>(alloc: Global, words: &[&str], shelf: &mut H, out:
 
     // 4. Want of memory comes before the capture is opened and writes nothing.
     ensures unopened { result ≡ NO_MEMORY → LacksFilter (texts words.now) shelf.old shelf.new
-        ⊎ LacksProfile H.Shelf (texts words.now) shelf.old shelf.new }
+        ⊎ (LacksProfile H.Shelf (texts words.now) shelf.old shelf.new
+        ⊎ LacksEngine (texts words.now) shelf.old shelf.new) }
     ensures no_memory { result ≡ NO_MEMORY → out.new ≡ out.old }
 
     // 5. Each file is asked for at most once, the profile's first: none for words that are no
-    // command, the profile's alone where it is refused, and both where the capture is judged.
+    // command and for a trial, the profile's alone where it is refused, and both where the capture
+    // is judged.
     ensures none_opened { IsNoCommand (texts words.now) → shelf.new ≡ shelf.old }
     ensures filter_first { (e : filtering.FilterError) → IsRefused (texts words.now) e →
         shelf.new ≡ shelf.old }
     ensures one_opened { result ≡ PROFILE → (view : View) × (profile : List ℕ) × (capture : List ℕ)
         × IsCommand (texts words.now) view profile capture
         × Opens H.Shelf profile shelf.old shelf.new × (H.is_open shelf.new ≡ true) }
-    ensures both_opened { IsJudged result → (view : View) × (profile : List ℕ) × (capture : List ℕ)
+    ensures trial_alone { IsGenerated (texts words.now) → shelf.new ≡ shelf.old }
+    ensures both_opened { IsJudged result → IsGenerated (texts words.now)
+        ⊎ ((view : View) × (profile : List ℕ) × (capture : List ℕ)
         × IsCommand (texts words.now) view profile capture
-        × OpensBoth H.Shelf profile capture shelf.old shelf.new × (H.is_open shelf.new ≡ true) }
+        × OpensBoth H.Shelf profile capture shelf.old shelf.new × (H.is_open shelf.new ≡ true)) }
 
     // 6. Each status has its cause, whatever the shelf and the sink tell.
     ensures status { (result ≤ NO_MEMORY) ⊎ (result ≡ FILTER) }
@@ -135,6 +150,10 @@ pub fn run<H: Shelf, O: Sink>(alloc: Global, words: &[&str], shelf: &mut H, out:
         IsUnrisen (H.faults shelf.old) (H.faults shelf.new) →
         IsUnrisen (O.faults out.old) (O.faults out.new) → (result ≡ NO_MEMORY)
         ⊎ Gives (output view p b) (status_of p b) (O.written out.old) (O.written out.new) result }
+    ensures trial_complete { (number count : ℕ) → IsTrial (texts words.now) number count →
+        IsUnrisen (O.faults out.old) (O.faults out.new) → (result ≡ NO_MEMORY)
+        ⊎ Gives (trial_text number count) (trial_status number count)
+        (O.written out.old) (O.written out.new) result }
 
     // 8. It makes no fault by itself: none of a sure shelf with the files that are needed, and none
     // of a sink with room for what is written.
@@ -148,6 +167,9 @@ pub fn run<H: Shelf, O: Sink>(alloc: Global, words: &[&str], shelf: &mut H, out:
         O.faults out.new ≡ O.faults out.old }
     ensures filter_room { (e : filtering.FilterError) → IsRefused (texts words.now) e →
         HasRoom (O.room out.old) (length (filter_error_text e)) →
+        O.faults out.new ≡ O.faults out.old }
+    ensures trial_room { (number count : ℕ) → IsTrial (texts words.now) number count →
+        HasRoom (O.room out.old) (length (trial_text number count)) →
         O.faults out.new ≡ O.faults out.old }
     ensures usage_room { IsNoCommand (texts words.now) →
         HasRoom (O.room out.old) (length usage_text) → O.faults out.new ≡ O.faults out.old }
@@ -167,8 +189,23 @@ fn run_words<H: Shelf, O: Sink>(alloc: Global, words: &[&str], shelf: &mut H, ou
     } else if begin(words, "report", 3) {
         report(alloc, words[1], words[2], shelf, out)
     } else {
-        write_last(out, usage_line(), USAGE)
+        match numbers_of_trial(words) {
+            Some((number, count)) => trial(alloc, number, count, out),
+            None => write_last(out, usage_line(), USAGE),
+        }
     }
+}
+
+/// The number and the count of the words `trial NUMBER COUNT`. None for other words.
+fn numbers_of_trial(words: &[&str]) -> Option<(u64, u32)>
+    ensures { IsTrialOf (texts words.now) result }
+{
+    if !begin(words, "trial", 3) {
+        return None;
+    }
+    let number = number(words[1])?;
+    let count = count(words[2])?;
+    Some((number, count))
 }
 
 /// Whether there are so many words, of which the first is this.

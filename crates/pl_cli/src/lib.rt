@@ -5,8 +5,10 @@ mod capture;
 mod closing;
 mod command_line;
 mod commands;
+mod generated;
 mod item;
 mod judging;
+mod numbers;
 mod profile;
 pub mod status;
 mod view;
@@ -14,4 +16,5 @@ mod with_engine;
 
 pub use command_line::run;
 pub use commands::{check, list, report};
+pub use generated::trial;
 pub use with_engine::{check_with, list_with, report_with};

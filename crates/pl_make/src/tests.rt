@@ -1,6 +1,7 @@
 //! Captures made apart from this program, from the words that describe them, by a script that
 //! divides bit by bit.
 use crate::Maker;
+use pl_crc::Crc32;
 use pl_io::Shelf;
 use std::alloc::Global;
 use std::process::Abort;
@@ -40,17 +41,21 @@ fn a_file_is_read_again_from_its_beginning(rt: HostRuntime) -> Result<(), Fail> 
     Ok(())
 }
 
+/// The length and the CRC-32 are those of the file that bench/check/rounds.rs writes.
 #[test]
-fn a_hundred_thousand_rounds_have_their_length(rt: HostRuntime) -> Result<(), Fail> {
+fn a_hundred_thousand_rounds_are_those_of_another_program(rt: HostRuntime) -> Result<(), Fail> {
     let mut maker = Maker::new(1, 100_000);
     let mut buffer = [0; 4096];
     let mut total: u64 = 0;
+    let mut crc = Crc32::new();
     assert!(rt; maker.open("capture").is_ok());
     for _ in 0..600_020 {
         let count = maker.read(&mut buffer).ok().ok_or("a read failed")?;
         total = total.saturating_add(count as u64);
+        crc.update(&buffer[..count]);
     }
     assert_eq!(rt; total, 21_194_504);
+    assert_eq!(rt; crc.value(), [0x25, 0x15, 0x9e, 0x55]);
     Ok(())
 }
 

@@ -1,5 +1,6 @@
 use Rattle.pl_cli.proofs.Headline.{came, clean_by, complete_by, cut_short_by, exact_by, no_capture_by, no_profile_by, of_command, part_by, refused_by, refused_cut_by, refused_part_by, shelf_sure_by, sink_room_by}
 use Rattle.pl_cli.proofs.Statuses.{both_opened_by, filter_by, filter_only_by, filter_opened_by, filter_part_by, filter_room_by, no_memory_by, none_opened_by, one_opened_by, read_fault_by, shelf_kept_by, sink_kept_by, status_by, unopened_by, usage_by, usage_only_by, usage_room_by, write_fault_by}
+use Rattle.pl_cli.proofs.Trials.{trial_by, trial_clean, trial_complete, trial_room}
 use Rattle.pl_cli.proofs.command_line.run.Goals as goal
 
 pub returns-clause-exact : goal.returns-clause-exact
@@ -91,3 +92,18 @@ returns-clause-filter_room g c = λ e h room. filter_room_by e c.run_words.ensur
 
 pub returns-clause-usage_room : goal.returns-clause-usage_room
 returns-clause-usage_room g c = usage_room_by c.run_words.ensures.runs
+
+pub returns-clause-trial : goal.returns-clause-trial
+returns-clause-trial g c = λ n k is. (trial_by n k c.run_words.ensures.runs is).1
+
+pub returns-clause-trial_clean : goal.returns-clause-trial_clean
+returns-clause-trial_clean g c = λ n k is is0. trial_clean (trial_by n k c.run_words.ensures.runs is).1 is0
+
+pub returns-clause-trial_alone : goal.returns-clause-trial_alone
+returns-clause-trial_alone g c = λ is. (trial_by is.0 is.1 c.run_words.ensures.runs is.2).0
+
+pub returns-clause-trial_complete : goal.returns-clause-trial_complete
+returns-clause-trial_complete g c = λ n k is unrisen. trial_complete (trial_by n k c.run_words.ensures.runs is).1 unrisen
+
+pub returns-clause-trial_room : goal.returns-clause-trial_room
+returns-clause-trial_room g c = λ n k is room. trial_room (trial_by n k c.run_words.ensures.runs is).1 room
