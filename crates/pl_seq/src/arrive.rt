@@ -5,7 +5,8 @@ ghost use Rattle.std.specs.Prelude.{◌≡◌, ◌≢◌, ◌+◌, ◌<◌, ◌�
 ghost use Rattle.std.specs.Prelude.{IfSome, Some, is_some, length, nat_le, slice_get};
 ghost use Rattle.arrayvec.specs.ArrayVec.{array_vec_len};
 ghost use Rattle.pl_seq.specs.Runs.{is_sure, place_of, with_taken};
-ghost use Rattle.pl_seq.specs.History.{Event, Tlp, answered, counted, original, original_place};
+ghost use Rattle.pl_seq.specs.History.{Event, Tlp, answered, counted, is_taken, opens, original};
+ghost use Rattle.pl_seq.specs.History.{original_place};
 ghost use Rattle.pl_seq.specs.Rules.{is_out_of_turn, lane_verdicts, position_of};
 ghost use Rattle.pl_seq.specs.Rules.{repeats_unacknowledged};
 ghost use Rattle.pl_seq.specs.Lane.{StandsFor, latest_position};
@@ -17,7 +18,53 @@ use crate::slot::LONGEST_TLP;
 use pl_base::{Body, Found, Rule, add_if};
 
 impl Lane {
+    /// A TLP that isn't whole, or that `Sequence::is_due` doesn't know to have the next number: what
+    /// it breaks of L1 and S1 to S4. Apart, since few are.
+    #[cold]
+    #[inline(never)]
+    pub(crate) fn tlp_apart(
+        &mut self,
+        found: &mut Found,
+        number: u16,
+        tlp: &[u8],
+        body: Body,
+        at: u64,
+    )
+        requires number { number < 4096 }
+        requires size { length tlp.now ≤ LONGEST_TLP }
+        requires room { place_of self.old.run number body ≡ Place.Taken →
+            length self.old.unacknowledged ≢ self.old.room }
+        requires rises { latest_position self.old.latest_tlp < at }
+        requires none { found.old.items ≡ [] }
+        ensures verdicts { (past : List Event) → StandsFor self.old past →
+            found.new.items ≡ lane_verdicts past (Tlp number tlp.now body at) }
+        ensures stands { (past : List Event) → StandsFor self.old past →
+            StandsFor self.new (Tlp number tlp.now body at ∷ past) }
+        ensures few { array_vec_len found.new ≤ 2 }
+        ensures few_taken { is_taken (place_of self.old.run number body) ≡ Bool.true →
+            array_vec_len found.new ≤ 1 }
+        ensures grows { place_of self.old.run number body ≡ Place.Taken →
+            length self.new.unacknowledged ≡ length self.old.unacknowledged + 1 }
+        ensures alone { place_of self.old.run number body ≡ Place.Opens →
+            self.new.unacknowledged ≡ record { at = at; bytes = tlp.now } ∷ [] }
+        ensures stays { is_taken (place_of self.old.run number body) ≡ Bool.false →
+            self.new.unacknowledged ≡ self.old.unacknowledged }
+        ensures latest { latest_position self.new.latest_tlp ≡ at }
+        ensures room { self.new.room ≡ self.old.room }
+        ensures runs { self.new.runs
+            ≡ counted (opens (place_of self.old.run number body)) self.old.runs }
+    {
+        match self.place(number, body) {
+            Place::Taken => self.take(found, number, tlp, at),
+            Place::Repeat => self.repeat(found, number, tlp, at),
+            Place::Stray => self.stray(found, number, tlp, at),
+            Place::Dropped => self.drop_tlp(found, number, tlp, body, at),
+            Place::Opens => self.jump(found, number, tlp, at),
+        }
+    }
+
     /// A TLP that has the next number: S4.
+    #[inline(always)]
     #[tactic(auto, unfolding(crate::specs::Rules::lane_verdicts))]
     pub(crate) fn take(&mut self, found: &mut Found, number: u16, tlp: &[u8], at: u64)
         requires place { place_of self.old.run number Body.Whole ≡ Place.Taken }

@@ -1,7 +1,7 @@
 //! The sequence numbers of a run: TLPs of one direction that are numbered one after the other.
 //! PCI Express Base Specification 5.0, chapter 3: sequence numbers, Ack and Nak.
-ghost use Rattle.std.specs.Prelude.{◌≡◌, ◌+◌, ◌-◌, ◌<◌, ◌≤◌, Bool, IfSome, is_some};
-ghost use Rattle.pl_seq.specs.Runs.{empty_run, has_original, is_ahead, is_confirmed};
+ghost use Rattle.std.specs.Prelude.{◌≡◌, ℕ, ◌+◌, ◌<◌, ◌≤◌, Bool, IfSome, IsTrue, Some, is_some};
+ghost use Rattle.pl_seq.specs.Runs.{advance, empty_run, has_original, is_ahead, is_confirmed};
 ghost use Rattle.pl_seq.specs.Runs.{is_sure, is_valid, newly_answered, original_place_of};
 ghost use Rattle.pl_seq.specs.Runs.{place_behind, place_of, with_answered, with_taken};
 
@@ -94,6 +94,14 @@ impl Sequence {
         !self.torn || self.is_confirmed()
     }
 
+    /// Whether a whole TLP with this sequence number is known to have the next one. While no TLP's
+    /// number is known any has it, and this may say no.
+    pub fn is_due(&self, number: u16) -> bool
+        ensures { IsTrue result → place_of self.now number Body.Whole ≡ Place.Taken }
+    {
+        number == self.due
+    }
+
     /// Where a TLP with this sequence number stands, if it comes now.
     pub fn place(&self, number: u16, body: Body) -> Place
         requires { number < 4096 }
@@ -153,25 +161,21 @@ impl Sequence {
         }
     }
 
-    /// How many more an Ack or Nak of this number answers, none where it isn't valid.
-    pub fn newly_answered(&self, number: u16) -> Option<u16>
-        requires number { number < 4096 }
-        requires order { self.now.answered ≤ self.now.next }
-        ensures valid { is_some result ≡ is_valid self.now number }
-        ensures count { IfSome result (λ count. count ≡ newly_answered self.now number) }
-        ensures within { IfSome result (λ count. count ≤ self.now.next - self.now.answered) }
+    /// Whether the number of its first TLP is known.
+    pub fn is_based(&self) -> bool
+        ensures { result ≡ is_some self.now.base }
     {
-        match self.base {
-            Some(_) => {
-                let count = difference(after(number), self.unanswered);
-                if u64::from(count) <= self.next - self.answered {
-                    Some(count)
-                } else {
-                    None
-                }
-            }
-            None => None,
-        }
+        self.base.is_some()
+    }
+
+    /// How many more an Ack or Nak of this number would answer, where the first TLP's number is
+    /// known.
+    pub fn distance(&self, number: u16) -> u16
+        requires { number < 4096 }
+        ensures { (base : ℕ) → self.now.base ≡ Some base →
+            result ≡ advance base self.now.answered number }
+    {
+        difference(after(number), self.unanswered)
     }
 
     /// Whether an Ack or Nak of this number, which isn't valid, answers TLPs that the capture
