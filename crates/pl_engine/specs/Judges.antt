@@ -5,7 +5,7 @@ use Rattle.pl_capture.specs.declared.item.ItemKind.TheVariants as kind
 use Rattle.pl_capture.specs.Entry.{Entry}
 use Rattle.pl_profile.specs.declared.profile.Profile.{Profile}
 use Rattle.pl_engine.specs.declared.arrival.Arrival.{Arrival}
-use Rattle.pl_engine.specs.declared.arrival.Arrival.TheVariants.{Tlp, Dllp, LinkDown}
+use Rattle.pl_engine.specs.declared.arrival.Arrival.TheVariants.{Tlp, Dllp, LinkDown, Gap}
 use Rattle.pl_engine.specs.declared.parts.Parts.{Parts}
 use Rattle.pl_engine.specs.declared.refused.Refused.{Refused}
 use Rattle.pl_engine.specs.Parts.{PartsStandFor}
@@ -33,3 +33,4 @@ Arrived past x (Tlp arrived place) =
     (x.kind ≡ kind.Tlp) × (state_of x ≡ arrived) × (place_at past x ≡ place)
 Arrived past x Dllp = x.kind ≡ kind.Dllp
 Arrived past x LinkDown = x.kind ≡ kind.LinkDown
+Arrived past x Gap = x.kind ≡ kind.Gap

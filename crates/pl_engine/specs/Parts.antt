@@ -24,10 +24,11 @@ pub record IsReady (profile : Profile) (at : ℕ) (parts : Parts) : Type 0 where
   pub credits : parts.credits.profile ≡ profile
   pub pairs : pair.room_of parts.pairs ≡ profile.outstanding
 
--- a TLP that the pairs can take: where it is a request, there is room for it
-pub record IsTakable (pairs : pair.Kept) (dir : Dir) (fields : Fields) : Type 0 where
-  pub room : needs_completion fields.kind ≡ true → pair.LacksRoom pairs (request_id dir fields) → ⊥
+-- a TLP that the pairs can take: where it is a sure request, there is room for it
+pub record IsTakable (pairs : pair.Kept) (dir : Dir) (sure : Bool) (fields : Fields) : Type 0 where
+  pub room : sure ≡ true → needs_completion fields.kind ≡ true
+      → pair.LacksRoom pairs (request_id dir fields) → ⊥
 
-abbrev pub IsTakableIfWhole : pair.Kept → Dir → Option Fields → Type 0
-IsTakableIfWhole pairs dir None = Unit {0}
-IsTakableIfWhole pairs dir (Some fields) = IsTakable pairs dir fields
+abbrev pub IsTakableIfWhole : pair.Kept → Dir → Bool → Option Fields → Type 0
+IsTakableIfWhole pairs dir sure None = Unit {0}
+IsTakableIfWhole pairs dir sure (Some fields) = IsTakable pairs dir sure fields

@@ -91,6 +91,10 @@ impl Parts {
                 self.link_down();
                 Ok(Arrival::LinkDown)
             }
+            ItemKind::Gap => {
+                self.gap();
+                Ok(Arrival::Gap)
+            }
         }
     }
 
@@ -155,14 +159,15 @@ impl Parts {
         if self.lanes.is_full_for(place, item.dir) {
             return Err(Refused::Unacknowledged(profile.unacknowledged));
         }
+        let sure = self.lanes.is_sure(place, item.dir);
         let packet = view(tlp_of(item.body));
-        if let Some(refused) = refusal(&self.pairs, profile, item.dir, &packet) {
+        if let Some(refused) = refusal(&self.pairs, profile, item.dir, sure, &packet) {
             return Err(refused);
         }
         self.lanes.tlp(item, arrived, at, found);
         spend(&mut self.credits, profile, item.dir, &packet, at, found);
         judge_into(profile, item.dir, &packet, at, found);
-        transact(&mut self.pairs, profile, item.dir, &packet, at, found);
+        transact(&mut self.pairs, profile, item.dir, sure, &packet, at, found);
         Ok(())
     }
 
@@ -205,5 +210,19 @@ impl Parts {
         self.lanes.reset();
         self.credits.reset();
         self.pairs.reset();
+    }
+
+    /// A gap begins a span of which all parts know that packets were missed, and breaks no rule.
+    #[tactic(auto, unfolding(crate::specs::Verdicts::verdicts_at, crate::specs::Verdicts::blocked))]
+    fn gap(&mut self)
+        ensures judged { (profile : Profile) (past : List Entry) (x : Entry) →
+            x.kind ≡ ItemKind.Gap →
+            IsJudged profile past x self.new [] }
+        ensures ready { (profile : Profile) (at : ℕ) → IsReady profile at self.old →
+            IsReady profile (at + 1) self.new }
+    {
+        self.lanes.gap();
+        self.credits.gap();
+        self.pairs.gap();
     }
 }
