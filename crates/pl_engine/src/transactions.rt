@@ -40,13 +40,7 @@ pub(crate) fn refusal(
 }
 
 /// Why this well-formed TLP isn't judged, if it isn't.
-fn refusal_of(
-    pairs: &Pairs,
-    profile: &Profile,
-    dir: Dir,
-    sure: bool,
-    tlp: &Tlp,
-) -> Option<Refused>
+fn refusal_of(pairs: &Pairs, profile: &Profile, dir: Dir, sure: bool, tlp: &Tlp) -> Option<Refused>
     requires room { room_of pairs.now ≡ profile.now.outstanding }
     requires fits { Fits (fields tlp.now) }
     ensures past { (past : List Event) → StandsFor pairs.now past →
