@@ -18,6 +18,8 @@ mod faults;
 #[cfg(test)]
 mod formation;
 #[cfg(test)]
+mod gaps;
+#[cfg(test)]
 mod link;
 #[cfg(test)]
 mod notation;

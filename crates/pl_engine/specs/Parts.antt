@@ -1,5 +1,5 @@
 -- When the parts stand for a history, and what they can take.
-use Rattle.std.specs.Prelude.{◌≡◌, ℕ, true, List, Option, Some, None}
+use Rattle.std.specs.Prelude.{Bool, ◌≡◌, ℕ, true, List, Option, Some, None}
 use Rattle.pl_base.specs.declared.link.Dir.{Dir}
 use Rattle.pl_capture.specs.Entry.{Entry}
 use Rattle.pl_tlp.specs.Fields.{Fields}

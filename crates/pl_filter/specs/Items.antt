@@ -29,6 +29,7 @@ abbrev pub tlp_view : ItemKind → Entry → Option Outcome
 tlp_view item.Tlp x = seen_as (state_of x) x.body
 tlp_view item.Dllp x = None
 tlp_view item.LinkDown x = None
+tlp_view item.Gap x = None
 
 -- the fields of a whole TLP of the right size
 abbrev pub fields_in : Option Outcome → Option Fields
@@ -56,11 +57,12 @@ dllp_name (decoded.Ok d) = type_name d
 dllp_name decoded.BadCrc = name.BadCrc
 dllp_name decoded.Reserved = name.Reserved
 
--- the name of an item; a link down, a spoiled TLP and a nullified one have none
+-- the name of an item; a link down, a gap, a spoiled TLP and a nullified one have none
 abbrev pub name_in : ItemKind → Entry → Option Name
 name_in item.Tlp x = tlp_name (seen_as (state_of x) x.body)
 name_in item.Dllp x = Some (dllp_name (frame x.body))
 name_in item.LinkDown x = None
+name_in item.Gap x = None
 
 abbrev pub item_name : Entry → Option Name
 item_name x = name_in x.kind x

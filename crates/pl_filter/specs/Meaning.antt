@@ -21,7 +21,7 @@ use Rattle.pl_filter.specs.declared.filter.Test.{Test}
 use Rattle.pl_filter.specs.declared.filter.Test.TheVariants as test
 use Rattle.pl_filter.specs.declared.name.Name.{Name}
 
--- whether an item is a packet in this direction; a link down has none
+-- whether an item is a packet in this direction; a link down and a gap have none
 abbrev pub goes_up : Dir → Bool
 goes_up dir.Down = false
 goes_up dir.Up = true
@@ -30,6 +30,7 @@ abbrev pub is_packet : ItemKind → Bool
 is_packet item.Tlp = true
 is_packet item.Dllp = true
 is_packet item.LinkDown = false
+is_packet item.Gap = false
 
 -- whether a packet is spoiled, or nullified
 abbrev pub is_bad_crc : Decoded → Bool
@@ -51,6 +52,7 @@ abbrev pub spoiled : ItemKind → Entry → Bool
 spoiled item.Tlp x = is_spoiled (state_of x)
 spoiled item.Dllp x = is_bad_crc (frame x.body)
 spoiled item.LinkDown x = false
+spoiled item.Gap x = false
 
 -- whether a name or a field is there and is this one
 abbrev pub is_name : Name → Option Name → Bool

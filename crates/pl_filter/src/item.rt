@@ -17,7 +17,7 @@ use pl_engine::{body, dllp_of, tlp_of};
 use pl_tlp::View;
 
 /// The name of an item: of a whole TLP its kind, `undefined` or `wrongsize`, of a DLLP its type,
-/// `other`, `badcrc` or `reserved`. A spoiled or nullified TLP and a link down have none.
+/// `other`, `badcrc` or `reserved`. A spoiled or nullified TLP, a link down and a gap have none.
 pub fn name_of(item: &Item) -> Option<Name>
     requires { IsLawful (view item.now) }
     ensures { result ≡ spec.item_name (view item.now) }
@@ -33,7 +33,7 @@ pub fn name_of(item: &Item) -> Option<Name>
             Decoded::BadCrc => Name::BadCrc,
             Decoded::Reserved => Name::Reserved,
         }),
-        ItemKind::LinkDown => None,
+        ItemKind::LinkDown | ItemKind::Gap => None,
     }
 }
 
@@ -47,7 +47,7 @@ pub(crate) fn tlp_view<'a>(item: &Item<'a>) -> Option<View<'a>>
             Body::Whole => Some(pl_tlp::view(tlp_of(item.body))),
             Body::Nullified | Body::Spoiled => None,
         },
-        ItemKind::Dllp | ItemKind::LinkDown => None,
+        ItemKind::Dllp | ItemKind::LinkDown | ItemKind::Gap => None,
     }
 }
 

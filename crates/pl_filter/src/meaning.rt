@@ -36,8 +36,8 @@ fn passes(test: Test, item: &Item) -> bool
 {
     match test {
         Test::Any => true,
-        Test::Up => item.kind != ItemKind::LinkDown && item.dir == Dir::Up,
-        Test::Down => item.kind != ItemKind::LinkDown && item.dir == Dir::Down,
+        Test::Up => is_packet(item.kind) && item.dir == Dir::Up,
+        Test::Down => is_packet(item.kind) && item.dir == Dir::Down,
         Test::Tlp => item.kind == ItemKind::Tlp,
         Test::Dllp => item.kind == ItemKind::Dllp,
         Test::LinkDown => item.kind == ItemKind::LinkDown,
@@ -63,7 +63,17 @@ fn is_spoiled(item: &Item) -> bool
     match item.kind {
         ItemKind::Tlp => body(item) == Body::Spoiled,
         ItemKind::Dllp => matches!(dllp_of(item.body), Decoded::BadCrc),
-        ItemKind::LinkDown => false,
+        ItemKind::LinkDown | ItemKind::Gap => false,
+    }
+}
+
+/// Whether items of this kind are packets, which travel in a direction.
+fn is_packet(kind: ItemKind) -> bool
+    ensures { result ≡ spec.is_packet kind }
+{
+    match kind {
+        ItemKind::Tlp | ItemKind::Dllp => true,
+        ItemKind::LinkDown | ItemKind::Gap => false,
     }
 }
 

@@ -46,6 +46,7 @@ dllp_lawful time dir bytes size lt =
       dllp = λ e. (size, refl);
       link_down =
           λ e. absurd (let f = e in cc);
+      gap = λ e. absurd (let f = e in cc);
       time = lt;
     }
 
@@ -82,6 +83,7 @@ tlp_lawful time dir number x plain lt =
       dllp =
           λ e. absurd (let f = e in cc);
       link_down = λ e. absurd (let f = e in cc);
+      gap = λ e. absurd (let f = e in cc);
       time = lt;
     }
 

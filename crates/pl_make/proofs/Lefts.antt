@@ -151,7 +151,7 @@ start_items : (number count : ℕ) (p : Position) → p.group ≡ group.FirstIni
 unfolding items_from six behind items
 start_items number count p g i x = rw (g, i, x) refl
 
-pub whole : (number count : ℕ) (header : List ℕ) (p : Position) → header ≡ header_of 0 → p.group
+pub whole : (number count : ℕ) (header : List ℕ) (p : Position) → header ≡ header_of 1 0 → p.group
     ≡ group.FirstInit → p.index ≡ 0 → p.x ≡ number
     → header ++ to_make count (next.Item p) ≡ Gen number count
 unfolding to_make Gen
@@ -159,11 +159,11 @@ whole number count header p is g i x =
     let size = items_length number count in
     ap (λ (h : List ℕ). h ++ (flat_map record_of (items_from count p) ++ end_of (12 + 6 * count) 0))
     is
-    ∙ ap (λ (t : List Entry). header_of 0
+    ∙ ap (λ (t : List Entry). header_of 1 0
     ++ (flat_map record_of t ++ end_of (12 + 6 * count) 0)) (start_items number count p g i x)
-    ∙ ap (λ (n : ℕ). header_of 0
+    ∙ ap (λ (n : ℕ). header_of 1 0
     ++ (flat_map record_of (items number count) ++ end_of n 0)) (sym size)
-    ∙ sym (append_assoc (header_of 0) (flat_map record_of (items number count))
+    ∙ sym (append_assoc (header_of 1 0) (flat_map record_of (items number count))
     (end_of (length (items number count)) 0))
 
 -- ---- the items of a round, by their index

@@ -24,7 +24,7 @@ impl Record {
 
     /// The capture's header, 16 bytes.
     pub fn header() -> Record
-        ensures { unread result ≡ header_of 0 }
+        ensures { unread result ≡ header_of 1 0 }
     {
         let mut bytes = [0; LONGEST];
         let size = match write_header(0, &mut bytes) {

@@ -142,6 +142,20 @@ impl Notation {
         })
     }
 
+    /// A gap. A capture that has one is of version 2.
+    pub fn gap(&mut self) -> Result<(), AllocError> {
+        if let Some(version) = self.bytes.get_mut(9) {
+            *version = 2;
+        }
+        self.item(&Item {
+            kind: ItemKind::Gap,
+            dir: Dir::Down,
+            bad_end: false,
+            time: self.next(),
+            body: &[],
+        })
+    }
+
     /// An item with all its fields.
     pub fn item(&mut self, item: &Item) -> Result<(), AllocError>
         requires { IsLawful (view item.now) }

@@ -25,6 +25,7 @@ impl From<AllocError> for RowError {
 enum Row {
     BringUp(Credits),
     LinkDown,
+    Gap,
     Dllp(Dir, Dllp),
     Tlp(Dir, TlpRow),
 }
@@ -34,7 +35,7 @@ impl Notation {
     ///
     /// Rows are parted by `;`. A row may begin with the number of its item. `B0` is a bring-up with
     /// unlimited credits and `B1` one with limited credits, `B0 with Down P 127/0` one that differs
-    /// for a class. Then there are `link down` and, behind `Down` or `Up`, a DLLP or a TLP:
+    /// for a class. Then there are `link down`, `gap` and, behind `Down` or `Up`, a DLLP or a TLP:
     ///
     /// - `Ack 5`, `Nak 5`: the sequence number.
     /// - `UpdateFC-P 33/32`, and so `InitFC1` and `InitFC2`, `NP` and `Cpl`: header and data
@@ -64,6 +65,7 @@ impl Notation {
         match parse(&words, self.next()) {
             None => Ok(false),
             Some(Row::LinkDown) => self.link_down().map(|()| true),
+            Some(Row::Gap) => self.gap().map(|()| true),
             Some(Row::BringUp(credits)) => credits.add_to(self),
             Some(Row::Dllp(dir, dllp)) => dllp_row::add_to(self, dir, &dllp),
             Some(Row::Tlp(dir, row)) => row.add_to(self, dir),
@@ -75,6 +77,7 @@ impl Notation {
 fn parse(words: &[&str], next: u64) -> Option<Row> {
     match behind_number(words, next)? {
         ["link", "down"] => Some(Row::LinkDown),
+        ["gap"] => Some(Row::Gap),
         ["B0", rest @ ..] => Credits::unlimited().with(rest).map(Row::BringUp),
         ["B1", rest @ ..] => Credits::limited().with(rest).map(Row::BringUp),
         ["Down", name, rest @ ..] => packet(Dir::Down, name, rest),

@@ -12,7 +12,7 @@ use Rattle.pl_base.specs.declared.stop.Stop.TheVariants.{Unacknowledged, Memory}
 use Rattle.pl_base.specs.declared.verdict.Verdict.{Verdict}
 use Rattle.pl_capture.specs.Entry.{Entry}
 use Rattle.pl_capture.specs.declared.item.ItemKind.{ItemKind}
-use Rattle.pl_capture.specs.declared.item.ItemKind.TheVariants.{Tlp, Dllp, LinkDown}
+use Rattle.pl_capture.specs.declared.item.ItemKind.TheVariants.{Tlp, Dllp, LinkDown, Gap}
 use Rattle.pl_engine.specs.Packets.{sequence_number}
 use Rattle.pl_engine.specs.State.{state_of}
 use Rattle.pl_filter.specs.Answers.{number_of}
@@ -55,6 +55,7 @@ packet_text Tlp x =
     ++ codes " " ++ tlp_text (state_of x) (item_name x)
 packet_text Dllp x = direction_text x.dir ++ codes " dllp " ++ name_text (item_name x)
 packet_text LinkDown x = codes " link down"
+packet_text Gap x = codes " gap"
 
 -- an item, with its time in picoseconds
 unfoldable pub item_text : ℕ → Entry → List ℕ

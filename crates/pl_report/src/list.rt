@@ -70,6 +70,7 @@ fn push_packet(line: &mut Line, item: &Item)
             line.push_str(name_text(item));
         }
         ItemKind::LinkDown => line.push_str(" link down"),
+        ItemKind::Gap => line.push_str(" gap"),
     }
 }
 

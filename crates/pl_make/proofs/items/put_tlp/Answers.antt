@@ -10,5 +10,6 @@ put_item-requires-clause-lawful c =
       tlp = λ e. (omega arith, omega arith);
       dllp = λ e. absurd (let f = e in cc);
       link_down = λ e. absurd (let f = e in cc);
+      gap = λ e. absurd (let f = e in cc);
       time = omega arith;
     }
