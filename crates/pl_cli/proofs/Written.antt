@@ -1,5 +1,5 @@
 -- Texts that are written one behind another.
-use Rattle.std.proofs.Common.{◌≡◌, ◌++◌, ◌+◌, ◌≤◌, ◌<◌, List, ℕ, zero, suc, [], ◌∷◌, ap, ◌∙◌, sym, subst, length, take, drop, append_assoc, append-nil, length-append, arith, Option, Some, None, Result, Ok, Err, OnErr, slice_get}
+use Rattle.std.proofs.Common.{◌≡◌, ◌++◌, ◌+◌, ◌≤◌, ◌<◌, List, ℕ, zero, suc, [], ◌∷◌, refl, ap, ◌∙◌, sym, subst, length, take, drop, append_assoc, append-nil, length-append, arith, Option, Some, None, Result, Ok, Err, OnErr, slice_get}
 use Rattle.std.specs.List.{concat, filter}
 use Rattle.std.proofs.lemmas.List.Sums.{count_by-le-length, length-filter}
 use Rattle.std.proofs.lemmas.List.{length-map}
@@ -7,6 +7,10 @@ use Rattle.pl_base.specs.declared.tally.Tally.{Tally}
 use Rattle.pl_io.specs.Told.{plus, HasRoom, Partly}
 use Rattle.pl_io.proofs.Told.{plus-plus}
 use Rattle.pl_report.specs.Summary.{count_lines, every_rule, is_broken, rule_lines, rule_text, summary_lines}
+
+pub plus-nothing : (w : Option (List ℕ)) → w ≡ plus w []
+plus-nothing None = refl
+plus-nothing (Some bytes) = ap Some (sym (append-nil bytes))
 
 -- room for more is room for less
 pub less_room : (room : Option ℕ) (m n : ℕ) → m ≤ n → HasRoom room n → HasRoom room m
