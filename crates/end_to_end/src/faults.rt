@@ -56,9 +56,20 @@ fn a_write_fault_cuts_lines_that_were_gathered(rt: HostRuntime) -> Result<(), Fa
         lines.push_str(&format!(in rt.alloc(); "item {number} rule L2 first - second -\n")?)?;
     }
     let capture = notation.end()?;
-    let outcome = check_by(rt.alloc(), &capture, Calls::whole(), Calls::failing(1000, &[3]))?;
-    assert!(rt; outcome.status == 8 && outcome.output.len() == 2000, "{outcome:?}");
-    assert!(rt; lines.as_bytes().starts_with(&outcome.output), "{outcome:?}");
+    let outcome = check_by(
+        rt.alloc(),
+        &capture,
+        Calls::whole(),
+        Calls::failing(1000, &[3]),
+    )?;
+    assert!(rt;
+        outcome.status == 8 && outcome.output.len() == 2000,
+        "{outcome:?}"
+    );
+    assert!(rt;
+        lines.as_bytes().starts_with(&outcome.output),
+        "{outcome:?}"
+    );
     Ok(())
 }
 

@@ -13,7 +13,7 @@ use Rattle.pl_engine.specs.Verdicts.{accepted, blocked, history_after, refusal, 
 use Rattle.pl_report.specs.Lines.{stop_text}
 use Rattle.pl_engine.specs.Judged.{judged_items}
 use Rattle.pl_cli.specs.declared.judging.Judging.{Judging}
-use Rattle.pl_cli.specs.Output.{Cause, How, View, cause_of_ending, lines_after, lines_at, status, stop_status, summary, tally_after, text, text_of}
+use Rattle.pl_cli.specs.Output.{How, View, cause_of_ending, lines_after, lines_at, status, stop_status, summary, tally_after, text, text_of}
 use Rattle.pl_cli.specs.Progress.{lines_in, CutIn, Blocks, Fails, Gathering, Gathers, Loses, LostAtItem, RefusedHolding, Tells}
 use Rattle.pl_cli.proofs.Known.{engine_known, reader_known}
 use Rattle.pl_engine.proofs.Lists.{accepted_all, history-append, refusal-append}

@@ -1,5 +1,5 @@
 -- The clauses of the top call, from what was read and what the last line led to.
-use Rattle.std.proofs.Common.{◌≡◌, ◌≢◌, ◌++◌, ◌+◌, ◌≤◌, ◌⊎◌, inl, inr, List, ℕ, Bool, true, false, [], refl, ap, ◌∙◌, sym, subst, length, take, append-nil, arith, Option, Some, None, zero-add}
+use Rattle.std.proofs.Common.{◌≡◌, ◌≢◌, ◌++◌, ◌+◌, ◌≤◌, ◌⊎◌, inl, inr, List, ℕ, Bool, true, false, [], refl, ap, ◌∙◌, sym, subst, length, take, append-nil, arith, Option, Some, zero-add}
 use Rattle.std.proofs.lemmas.List.{take_all, take_at}
 use Rattle.pl_base.specs.declared.stop.Stop.{Stop}
 use Rattle.pl_io.specs.declared.sink.Sink as sink
