@@ -1,5 +1,7 @@
 //! Reads and writes that fail, and command lines that are none.
 use crate::desk::{Calls, EMPTY, check_by, damaged_ack, run_words};
+use pl_base::Dir;
+use pl_notation::Notation;
 use std::alloc::{AllocError, Global};
 use std::test::Fail;
 
@@ -39,6 +41,33 @@ fn nothing_is_written_after_a_write_fault(rt: HostRuntime) -> Result<(), Fail> {
     )?;
     assert!(rt;
         outcome.is(8, "item 2 rule L2 first - second -\n"),
+        "{outcome:?}"
+    );
+    Ok(())
+}
+
+/// What 150 damaged Acks break is written in pieces, and a fault may come within a line.
+#[test]
+fn a_write_fault_cuts_lines_that_were_gathered(rt: HostRuntime) -> Result<(), Fail> {
+    let mut notation = Notation::new(rt.alloc(), 0)?;
+    let mut lines = String::new(rt.alloc());
+    for number in 1..151 {
+        notation.dllp_as_captured(Dir::Up, [0x00, 0x00, 0x0F, 0xFF, 0x25, 0xA9])?;
+        lines.push_str(&format!(in rt.alloc(); "item {number} rule L2 first - second -\n")?)?;
+    }
+    let capture = notation.end()?;
+    let outcome = check_by(
+        rt.alloc(),
+        &capture,
+        Calls::whole(),
+        Calls::failing(1000, &[3]),
+    )?;
+    assert!(rt;
+        outcome.status == 8 && outcome.output.len() == 2000,
+        "{outcome:?}"
+    );
+    assert!(rt;
+        lines.as_bytes().starts_with(&outcome.output),
         "{outcome:?}"
     );
     Ok(())

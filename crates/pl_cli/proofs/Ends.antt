@@ -65,15 +65,15 @@ so_far_text : {v : View} {p : Profile} {k : Engine} {w w1 : Tells} {j : Judging}
     SoFar v p bytes j k w w1 → IsTallyOf k t → cause_of_ending (reading bytes).ending how ≡ c →
     (text v p (reading bytes) how ≡ lines_in v p bytes ++ last_lines v t j c) × (status p (reading bytes) how ≡ cause_status j.verdicts c)
 so_far_text {v} {p} {j = j} {t} bytes how c f is h =
-    let both = all_judged v p (reading bytes) how f.accepted in
+    let both = all_judged v p (reading bytes) how f.judged.accepted in
     let xs : List Entry = (reading bytes).items in
     let shown : List ℕ = lines_in v p bytes in (
       both.0 ∙ ap (text_of v p xs) h
-          ∙ ap (λ (q : Tally). shown ++ (summary v q ++ last_text v (length xs) (listed v xs) (length (verdicts_in p bytes)) c)) (sym (tally_is xs f.profile_is f.engine_stands is))
-          ∙ ap (λ (n : ℕ). shown ++ (summary v t ++ last_text v n (listed v xs) (length (verdicts_in p bytes)) c)) (sym f.items)
-          ∙ ap (λ (n : ℕ). shown ++ (summary v t ++ last_text v j.items n (length (verdicts_in p bytes)) c)) (sym f.listed)
-          ∙ ap (λ (n : ℕ). shown ++ (summary v t ++ last_text v j.items j.listed n c)) (sym f.verdicts),
-      both.1 ∙ ap (status_by p xs) h ∙ ap (λ (n : ℕ). cause_status n c) (sym f.verdicts),
+          ∙ ap (λ (q : Tally). shown ++ (summary v q ++ last_text v (length xs) (listed v xs) (length (verdicts_in p bytes)) c)) (sym (tally_is xs f.judged.profile_is f.judged.engine_stands is))
+          ∙ ap (λ (n : ℕ). shown ++ (summary v t ++ last_text v n (listed v xs) (length (verdicts_in p bytes)) c)) (sym f.judged.items)
+          ∙ ap (λ (n : ℕ). shown ++ (summary v t ++ last_text v j.items n (length (verdicts_in p bytes)) c)) (sym f.judged.listed)
+          ∙ ap (λ (n : ℕ). shown ++ (summary v t ++ last_text v j.items j.listed n c)) (sym f.judged.verdicts),
+      both.1 ∙ ap (status_by p xs) h ∙ ap (λ (n : ℕ). cause_status n c) (sym f.judged.verdicts),
     )
 
 -- what the whole run is, once all that is judged was read: these lines, and then the last ones
@@ -96,7 +96,7 @@ so_far_finishes {v} {p} {k} file read how c f is e h ended =
       text = ap (λ (l : List ℕ). text v p (reading l) (how_of file)) e ∙ ap (text v p (reading read)) h ∙ both.0;
       status = ap (λ (l : List ℕ). status p (reading l) (how_of file)) e ∙ ap (status p (reading read)) h ∙ both.1;
       engine_stands = subst (λ (xs : List Entry). engine.StandsFor k (history_after [] xs))
-          (sym (ap (λ (l : List ℕ). judged_items p (reading l)) e ∙ accepted_all p [] (reading read).items f.accepted)) f.engine_stands;
+          (sym (ap (λ (l : List ℕ). judged_items p (reading l)) e ∙ accepted_all p [] (reading read).items f.judged.accepted)) f.judged.engine_stands;
     }
 
 refused_finishes : {v : View} {p : Profile} {k : Engine} {w w1 : Tells} {t : Tally} (j : Judging) (file read rest : List ℕ) (s : Stop) →
@@ -104,15 +104,15 @@ refused_finishes : {v : View} {p : Profile} {k : Engine} {w w1 : Tells} {t : Tal
 refused_finishes {v} {p} {k} j file read rest s f is h le =
     let more : List ℕ = take (limit - length read) rest in
     let front : take limit file ≡ read ++ more = ap (take limit) h ∙ up_to_limit read rest le in
-    let tally = tally_is (judged_items p (reading (read ++ more))) f.profile_is (f.engine_stands more) is in
+    let tally = tally_is (judged_items p (reading (read ++ more))) f.refused.profile_is (f.refused.engine_stands more) is in
     record {
       before = f.before;
       written = f.written;
       room_left = f.room_left;
-      text = ap (λ (l : List ℕ). text v p (reading l) (how_of file)) front ∙ f.same_text more (how_of file)
+      text = ap (λ (l : List ℕ). text v p (reading l) (how_of file)) front ∙ f.refused.same_text more (how_of file)
           ∙ ap (λ (q : Tally). f.before ++ (summary v q ++ stop_text s)) (sym tally);
-      status = ap (λ (l : List ℕ). status p (reading l) (how_of file)) front ∙ f.same_status more (how_of file);
-      engine_stands = subst (λ (l : List ℕ). engine.StandsFor k (history_after [] (judged_items p (reading l)))) (sym front) (f.engine_stands more);
+      status = ap (λ (l : List ℕ). status p (reading l) (how_of file)) front ∙ f.refused.same_status more (how_of file);
+      engine_stands = subst (λ (l : List ℕ). engine.StandsFor k (history_after [] (judged_items p (reading l)))) (sym front) (f.refused.engine_stands more);
     }
 
 pub finishes : {v : View} {p : Profile} {k : Engine} {w w1 : Tells} {j : Judging} {t : Tally} (file read extra rest : List ℕ) (e : declared.Ended) →
@@ -122,26 +122,26 @@ finishes {j = j} file read extra rest ended.Whole h is le f fine =
     let whole : file ≡ read = f ∙ ap (λ (l : List ℕ). (read ++ l) ++ rest) h.0 ∙ ap (λ (l : List ℕ). (read ++ []) ++ l) h.1 ∙ append-nil (read ++ []) ∙ append-nil read in
     let short : length file ≤ limit = subst (λ (l : List ℕ). length l ≤ limit) (sym whole) le in
     so_far_finishes file read Whole _ h.2 is (take_all limit file short ∙ whole) (short_file file short)
-    (open_cause j.reader.place j.reader.phase (reading read) h.2.reader_stands h.2.goes_on)
+    (open_cause j.reader.place j.reader.phase (reading read) h.2.judged.reader_stands.shows h.2.judged.goes_on)
 finishes file read extra rest ended.Fault h is le f fine = cc
 finishes file read extra rest ended.TooLong h is le f fine =
     let whole : file ≡ read ++ (extra ++ rest) = f ∙ append_assoc read extra rest in
     so_far_finishes file read TooLong AtLimit h.2 is (ap (take limit) whole ∙ take_at read (extra ++ rest) limit h.0)
     (long_file file (omega (arith, ap length whole, length-append read (extra ++ rest), length-append extra rest, h.0, h.1)))
-    (going (reading read).ending h.2.goes_on).0
+    (going (reading read).ending h.2.judged.goes_on).0
 finishes {j = j} file read extra rest (ended.Refused s) h is le f fine =
     refused_finishes j file read rest s h.1 is (f ∙ ap (λ (l : List ℕ). (read ++ l) ++ rest) h.0 ∙ ap (λ (l : List ℕ). l ++ rest) (append-nil read)) le
 
 -- what stands before a read fault
 pub fault_text : {v : View} {p : Profile} {k : Engine} {w w1 : Tells} {j : Judging} {t : Tally} (read : List ℕ) →
     SoFar v p read j k w w1 → IsTallyOf k t → cut v p read ≡ lines_in v p read ++ last_lines v t j AtFault
-fault_text read f is = (so_far_text read Fault AtFault f is (going (reading read).ending f.goes_on).1).0
+fault_text read f is = (so_far_text read Fault AtFault f is (going (reading read).ending f.judged.goes_on).1).0
 
 -- nothing is refused in what stands before a read fault
 pub fault_cause : {v : View} {p : Profile} {k : Engine} {w w1 : Tells} {j : Judging} (read : List ℕ) →
     SoFar v p read j k w w1 → cause p (reading read) Fault ≡ AtFault
 fault_cause {p = p} read f =
-    ap (λ (o : Option Stop). cause_of o (reading read).ending Fault) f.accepted ∙ (going (reading read).ending f.goes_on).1
+    ap (λ (o : Option Stop). cause_of o (reading read).ending Fault) f.judged.accepted ∙ (going (reading read).ending f.judged.goes_on).1
 
 -- the sink failed at some item: a part of the output was written, for which there was no room
 pub cut_part : {v : View} {p : Profile} {k : Engine} {w w1 : Tells} (file read rest : List ℕ) → CutIn v p read k w w1 → file ≡ read ++ rest → length read ≤ limit →

@@ -1,5 +1,7 @@
 pub mod Written
+pub mod Gathered
 pub mod Texts
+pub mod Lost
 pub mod Steps
 pub mod Known
 pub mod Refusals

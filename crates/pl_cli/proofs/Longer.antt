@@ -4,12 +4,12 @@ use Rattle.pl_base.specs.declared.stop.Stop.{Stop}
 use Rattle.pl_capture.specs.Entry.{Entry}
 use Rattle.pl_capture.specs.Reading.{Reading, Ending, reading, Ended, Bad, Open}
 use Rattle.pl_capture.specs.Standing.{Standing, StandsFor, Phase, Waiting, Holding, Done, Stopped}
-use Rattle.pl_capture.proofs.Wholes.{whole_continues, whole_stays, whole_trails}
+use Rattle.pl_capture.proofs.Wholes.{version_in, whole_continues, whole_stays, whole_trails}
 use Rattle.pl_cli.proofs.Refusals.{Prefix}
 
 longer : (bytes : List ℕ) (e : Ending) → (reading bytes).ending ≡ e → (more : List ℕ) → (tail : List Entry) × ((reading (bytes ++ more)).items ≡ (reading bytes).items ++ tail)
 longer bytes (Bad s) h more = ([], ap (λ (r : Reading). r.items) (whole_stays bytes more s h) ∙ sym (append-nil (reading bytes).items))
-longer bytes (Open place pending) h more = (_, ap (λ (r : Reading). r.items) ((whole_continues bytes place pending h).on more))
+longer bytes (Open place pending) h more = (_, ap (λ (r : Reading). r.items) ((whole_continues (version_in bytes) bytes place pending h (λ _. refl)).on more))
 longer bytes Ended h [] = ([], ap (λ (b : List ℕ). (reading b).items) (append-nil bytes) ∙ sym (append-nil (reading bytes).items))
 longer bytes Ended h (x ∷ more) = ([], ap (λ (r : Reading). r.items) (whole_trails bytes (x ∷ more) h (omega arith)))
 
@@ -20,20 +20,20 @@ prefix bytes = record { items = longer bytes (reading bytes).ending refl }
 -- a reader that waits, lends an item or is done has met no refusal
 pub waiting_goes : (s : Standing) (bytes pending : List ℕ) → s.phase ≡ Waiting pending → StandsFor s bytes → (t : Stop) → (reading bytes).ending ≡ Bad t → ⊥
 waiting_goes s bytes pending p h t bad =
-    let open_is : (reading bytes).ending ≡ Open s.place pending = subst (λ (q : Phase). Rattle.pl_capture.specs.Standing.Shows s.place q (reading bytes)) p h in cc
+    let open_is : (reading bytes).ending ≡ Open s.place pending = subst (λ (q : Phase). Rattle.pl_capture.specs.Standing.Shows s.place q (reading bytes)) p h.shows in cc
 
 pub holding_goes : (s : Standing) (bytes : List ℕ) (x : Entry) → s.phase ≡ Holding x → StandsFor s bytes → (t : Stop) → (reading bytes).ending ≡ Bad t → ⊥
 holding_goes s bytes x p h t bad =
-    let both = subst (λ (q : Phase). Rattle.pl_capture.specs.Standing.Shows s.place q (reading bytes)) p h in
+    let both = subst (λ (q : Phase). Rattle.pl_capture.specs.Standing.Shows s.place q (reading bytes)) p h.shows in
     let open_is : (reading bytes).ending ≡ Open s.place [] = both.0 in cc
 
 pub done_goes : (s : Standing) (bytes : List ℕ) → s.phase ≡ Done → StandsFor s bytes → (t : Stop) → (reading bytes).ending ≡ Bad t → ⊥
 done_goes s bytes p h t bad =
-    let both = subst (λ (q : Phase). Rattle.pl_capture.specs.Standing.Shows s.place q (reading bytes)) p h in
+    let both = subst (λ (q : Phase). Rattle.pl_capture.specs.Standing.Shows s.place q (reading bytes)) p h.shows in
     let ended : (reading bytes).ending ≡ Ended = both.0 in cc
 
 pub stopped_is : (s : Standing) (bytes : List ℕ) (t : Stop) → s.phase ≡ Stopped t → StandsFor s bytes → (reading bytes).ending ≡ Bad t
-stopped_is s bytes t p h = (subst (λ (q : Phase). Rattle.pl_capture.specs.Standing.Shows s.place q (reading bytes)) p h).0
+stopped_is s bytes t p h = (subst (λ (q : Phase). Rattle.pl_capture.specs.Standing.Shows s.place q (reading bytes)) p h.shows).0
 
 pub stays : (bytes more : List ℕ) (s : Stop) → (reading bytes).ending ≡ Bad s → reading (bytes ++ more) ≡ reading bytes
 stays = whole_stays

@@ -70,24 +70,19 @@ one_refused v p r how xs x tail refused i h b =
     let both = by_parts v p r how xs (AtRefusal s) judged (ap (λ o. cause_of o r.ending how) refusal_is) in
     (judged, both.0, both.1)
 
--- where it judges the item behind these, whatever follows
-pub one_more : (v : View) (p : Profile) (r : Reading) (how : How) (xs : List Entry) (x : Entry) (tail : List Entry) →
-    r.items ≡ xs ++ x ∷ tail → refusal p [] xs ≡ None → blocked p (history_after [] xs) x ≡ None →
-    (rest : List ℕ) × (text v p r how ≡ lines_after v p [] xs ++ (lines_at v p (history_after [] xs) x ++ rest))
-one_more v p r how xs x tail i h b =
+-- where it refuses none of the first items, whatever follows
+pub front_text : (v : View) (p : Profile) (r : Reading) (how : How) (xs tail : List Entry) → r.items ≡ xs ++ tail → refusal p [] xs ≡ None →
+    (rest : List ℕ) × (text v p r how ≡ lines_after v p [] xs ++ rest)
+front_text v p r how xs tail i h =
     let past : List Entry = history_after [] xs in
-    let more : List Entry = accepted p (x ∷ past) tail in
-    let judged : judged_items p r ≡ xs ++ (x ∷ more) =
-    ap (accepted p []) i ∙ accepted-append p [] xs (x ∷ tail) h
-    ∙ ap (λ o. xs ++ accept o x (accepted p (x ∷ past) tail)) b in
+    let more : List Entry = accepted p past tail in
+    let all : List Entry = xs ++ more in
+    let judged : judged_items p r ≡ all = ap (accepted p []) i ∙ accepted-append p [] xs tail h in
     let c : Cause = cause_of (refusal p [] r.items) r.ending how in
-    let all : List Entry = xs ++ (x ∷ more) in
     let last : List ℕ = summary v (tally_after p all) ++ last_text v (length all) (listed v all) (length (verdicts_after p [] all)) c in
-    let here : List ℕ = lines_at v p past x in
-    let later : List ℕ = lines_after v p (x ∷ past) more in (
+    let later : List ℕ = lines_after v p past more in (
       later ++ last,
       (by_parts v p r how all c judged refl).0
-          ∙ ap (λ l. l ++ last) (lines_after-append v p [] xs (x ∷ more))
-          ∙ append_assoc (lines_after v p [] xs) (here ++ later) last
-          ∙ ap (λ l. lines_after v p [] xs ++ l) (append_assoc here later last),
+          ∙ ap (λ l. l ++ last) (lines_after-append v p [] xs more)
+          ∙ append_assoc (lines_after v p [] xs) later last,
     )

@@ -1,5 +1,5 @@
 -- The clauses of the top call, from what was read and what the last line led to.
-use Rattle.std.proofs.Common.{◌≡◌, ◌≢◌, ◌++◌, ◌+◌, ◌≤◌, ◌⊎◌, inl, inr, List, ℕ, Bool, true, false, [], refl, ap, ◌∙◌, sym, subst, length, take, append-nil, arith, Option, Some, None, zero-add}
+use Rattle.std.proofs.Common.{◌≡◌, ◌≢◌, ◌++◌, ◌+◌, ◌≤◌, ◌⊎◌, inl, inr, List, ℕ, Bool, true, false, [], refl, ap, ◌∙◌, sym, subst, length, take, append-nil, arith, Option, Some, zero-add}
 use Rattle.std.proofs.lemmas.List.{take_all, take_at}
 use Rattle.pl_base.specs.declared.stop.Stop.{Stop}
 use Rattle.pl_io.specs.declared.sink.Sink as sink
@@ -22,6 +22,7 @@ use Rattle.pl_cli.specs.Promise.{Answers, IsFront}
 use Rattle.pl_cli.specs.Progress.{Asked, IsTallyOf, Tells, tells, EndsAs, LostAtEnd, LostAtItem, ReadOf, RefusedIn, SoFar, Taken, TakenCut, is_fault, last_cause, last_lines, lines_in, nothing_judged}
 use Rattle.pl_engine.proofs.Lists.{accepted_all}
 use Rattle.pl_cli.proofs.Ends.{Finishes, fault_cause, fault_text, finishes}
+use Rattle.pl_cli.proofs.Written.{plus-nothing}
 
 -- the last line was written, or a part of it for which there was no room
 pub record Closed (old new : Tells) (last : List ℕ) (status answer : ℕ) : Type 0 where
@@ -98,7 +99,7 @@ top_cut {v} {p} {j} {w = w} {w2 = w2} {counts = counts} ended.Fault answer t is 
     let last : List ℕ = last_lines v counts j AtFault in
     let written : w2.written ≡ plus w.written (cut v p t.read) =
     (cl.done n8).0 ∙ ap (λ (o : Option (List ℕ)). plus o last) s.written ∙ plus-plus w.written before last ∙ ap (plus w.written) (sym (fault_text t.read s is)) in
-    (t.read, fault_read t b told_is file_is, fault_cause t.read s, written, s.engine_stands)
+    (t.read, fault_read t b told_is file_is, fault_cause t.read s, written, s.judged.engine_stands)
 top_cut ended.TooLong answer t is cl f told_is b file_is is7 = absurd (false_is_true (f is7))
 top_cut (ended.Refused s) answer t is cl f told_is b file_is is7 = absurd (false_is_true (f is7))
 
@@ -106,9 +107,9 @@ top_cut (ended.Refused s) answer t is cl f told_is b file_is is7 = absurd (false
 so_far_lost : {v : View} {p : Profile} {j : Judging} {k : Engine} {w w1 : Tells} {now : Option (List ℕ)} (read last : List ℕ) →
     SoFar v p read j k w w1 → Partly w1.written now last → LostAtEnd v p (reading read).items k w.written now
 so_far_lost {v} {p} {k = k} {w = w} {now = now} read last f part =
-    let all : accepted p [] (reading read).items ≡ (reading read).items = accepted_all p [] (reading read).items f.accepted in
+    let all : accepted p [] (reading read).items ≡ (reading read).items = accepted_all p [] (reading read).items f.judged.accepted in
     record {
-      engine_stands = subst (λ (xs : List Entry). engine.StandsFor k (history_after [] xs)) (sym all) f.engine_stands;
+      engine_stands = subst (λ (xs : List Entry). engine.StandsFor k (history_after [] xs)) (sym all) f.judged.engine_stands;
       last = last;
       part = subst (λ (o : Option (List ℕ)). Partly o now last) (f.written ∙ ap (λ (xs : List Entry). plus w.written (lines_after v p [] xs)) (sym all)) part;
     }
@@ -118,10 +119,10 @@ refused_lost : {v : View} {p : Profile} {k : Engine} {w w1 : Tells} {now : Optio
 refused_lost {v} {p} {k} {w} {now = now} read last s f part =
     let same : reading (read ++ []) ≡ reading read = ap reading (append-nil read) in
     record {
-      engine_stands = subst (λ (x : Reading). engine.StandsFor k (history_after [] (judged_items p x))) same (f.engine_stands []);
+      engine_stands = subst (λ (x : Reading). engine.StandsFor k (history_after [] (judged_items p x))) same (f.refused.engine_stands []);
       last = last;
       part = subst (λ (o : Option (List ℕ)). Partly o now last)
-          (f.written ∙ ap (plus w.written) (f.lines_are [] ∙ ap (λ (x : Reading). lines_after v p [] (judged_items p x)) same)) part;
+          (f.written ∙ ap (plus w.written) (f.refused.lines_are [] ∙ ap (λ (x : Reading). lines_after v p [] (judged_items p x)) same)) part;
     }
 
 -- what was seen past the most bytes that are judged isn't judged
@@ -172,10 +173,6 @@ top_lost_item {v} {p} {k} {w} {w1} {at = at} t is_open told_is b file_is =
       inl (subst (λ (l : List ℕ). LostAtItem v p (reading l).items k w.written w1.written) front (t.cut.at_item [])),
     )
 
-plus-nothing : (w : Option (List ℕ)) → w ≡ plus w []
-plus-nothing None = refl
-plus-nothing (Some bytes) = ap Some (sym (append-nil bytes))
-
 -- before anything is read
 pub so_far_nothing : {v : View} {k : Engine} {w : Tells} (j : Judging) → j ≡ nothing_judged → engine.StandsFor k [] → SoFar v k.profile [] j k w w
 so_far_nothing {v} {k} {w} j start stands = subst (λ (x : Judging). SoFar v k.profile [] x k w w) (sym start) nothing
@@ -188,14 +185,16 @@ so_far_nothing {v} {k} {w} j start stands = subst (λ (x : Judging). SoFar v k.p
 
     nothing : SoFar v k.profile [] nothing_judged k w w
     nothing = record {
-      profile_is = refl;
-      reader_stands = open_is;
-      goes_on = λ s bad. let o = open_is in cc;
-      engine_stands = subst (λ (xs : List Entry). engine.StandsFor k (history_after [] xs)) (sym none) stands;
-      accepted = ap (refusal k.profile []) none;
-      items = sym (ap (λ (xs : List Entry). length xs) none);
-      listed = sym (ap (listed v) none);
-      verdicts = sym (ap (λ (xs : List Entry). length (verdicts_after k.profile [] xs)) none);
+      judged = record {
+        profile_is = refl;
+        reader_stands = record { shows = open_is; version = λ some. absurd (omega arith) };
+        goes_on = λ s bad. let o = open_is in cc;
+        engine_stands = subst (λ (xs : List Entry). engine.StandsFor k (history_after [] xs)) (sym none) stands;
+        accepted = ap (refusal k.profile []) none;
+        items = sym (ap (λ (xs : List Entry). length xs) none);
+        listed = sym (ap (listed v) none);
+        verdicts = sym (ap (λ (xs : List Entry). length (verdicts_after k.profile [] xs)) none);
+      };
       written = plus-nothing w.written ∙ sym (ap (λ (xs : List Entry). plus w.written (lines_after v k.profile [] xs)) none);
       room_left = λ n room. subst (λ (xs : List Entry). HasRoom w.room (length (lines_after v k.profile [] xs) + n) → HasRoom w.room n) (sym none) (λ h. subst (HasRoom w.room) (zero-add n) h) room;
     }

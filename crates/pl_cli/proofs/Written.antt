@@ -1,5 +1,5 @@
 -- Texts that are written one behind another.
-use Rattle.std.proofs.Common.{◌≡◌, ◌++◌, ◌+◌, ◌≤◌, ◌<◌, List, ℕ, zero, suc, [], ◌∷◌, ap, ◌∙◌, sym, subst, length, take, drop, append_assoc, append-nil, length-append, arith, Option, Some, None, Result, Ok, Err, OnErr, slice_get}
+use Rattle.std.proofs.Common.{◌≡◌, ◌++◌, ◌+◌, ◌≤◌, ◌<◌, List, ℕ, zero, suc, [], ◌∷◌, refl, ap, ◌∙◌, sym, subst, length, take, drop, append_assoc, append-nil, length-append, arith, Option, Some, None, slice_get}
 use Rattle.std.specs.List.{concat, filter}
 use Rattle.std.proofs.lemmas.List.Sums.{count_by-le-length, length-filter}
 use Rattle.std.proofs.lemmas.List.{length-map}
@@ -7,6 +7,10 @@ use Rattle.pl_base.specs.declared.tally.Tally.{Tally}
 use Rattle.pl_io.specs.Told.{plus, HasRoom, Partly}
 use Rattle.pl_io.proofs.Told.{plus-plus}
 use Rattle.pl_report.specs.Summary.{count_lines, every_rule, is_broken, rule_lines, rule_text, summary_lines}
+
+pub plus-nothing : (w : Option (List ℕ)) → w ≡ plus w []
+plus-nothing None = refl
+plus-nothing (Some bytes) = ap Some (sym (append-nil bytes))
 
 -- room for more is room for less
 pub less_room : (room : Option ℕ) (m n : ℕ) → m ≤ n → HasRoom room n → HasRoom room m
@@ -48,10 +52,6 @@ first_lost w w1 a b part = record {
 pub first_fits : (room : Option ℕ) (a b : List ℕ) → HasRoom room (length (a ++ b)) → HasRoom room (length a)
 first_fits room a b h = less_room room (length a) (length (a ++ b)) (omega (arith, length-append a b)) h
 
-pub second_fits : (room room1 : Option ℕ) (a b : List ℕ) → ((k : ℕ) → HasRoom room (length a + k) → HasRoom room1 k) →
-    HasRoom room (length (a ++ b)) → HasRoom room1 (length b)
-second_fits room room1 a b left h = left (length b) (subst (HasRoom room) (length-append a b) h)
-
 pub room_behind : (room room1 : Option ℕ) (a b : List ℕ) (n : ℕ) → ((k : ℕ) → HasRoom room (length a + k) → HasRoom room1 k) →
     HasRoom room (length (a ++ b) + n) → HasRoom room1 (length b + n)
 room_behind room room1 a b n left h =
@@ -92,11 +92,6 @@ summary_few t = omega (
   length-filter (is_broken t) every_rule,
   count_by-le-length (is_broken t) every_rule,
 )
-
--- what follows of a fault's clause
-pub on_err : {X E P Q : Type 0} (r : Result X E) → (P → Q) → OnErr r P → OnErr r Q
-on_err (Ok x) f h = h
-on_err (Err e) f h = f h
 
 -- room for all lines is room for the next one
 pub line_room : (room room1 : Option ℕ) (ls : List (List ℕ)) (k : ℕ) (line : List ℕ) → slice_get ls k ≡ Some line →

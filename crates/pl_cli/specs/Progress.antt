@@ -58,10 +58,9 @@ pub record Tells : Type 0 where
 abbrev pub tells : {O : Type 0} → sink.Ghosts O → O → Tells
 tells T out = record { written = T.written out; room = T.room out }
 
--- All whole items of these bytes were judged, nothing is refused yet, and the lines are written.
--- The sink was in the state `old` before.
-pub record SoFar (view : View) (profile : Profile) (bytes : List ℕ) (judging : Judging)
-    (kept : Engine) (old new : Tells) : Type 0 where
+-- All whole items of these bytes were judged, and nothing is refused yet.
+pub record JudgedTo (view : View) (profile : Profile) (bytes : List ℕ) (judging : Judging)
+    (kept : Engine) : Type 0 where
   pub profile_is : kept.profile ≡ profile
   pub reader_stands : reader.StandsFor judging.reader bytes
   pub goes_on : (s : Stop) → (reading bytes).ending ≡ Bad s → ⊥
@@ -70,18 +69,20 @@ pub record SoFar (view : View) (profile : Profile) (bytes : List ℕ) (judging :
   pub items : judging.items ≡ length (reading bytes).items
   pub listed : judging.listed ≡ listed view (reading bytes).items
   pub verdicts : judging.verdicts ≡ length (verdicts_in profile bytes)
+
+-- And the lines are written. The sink was in the state `old` before.
+pub record SoFar (view : View) (profile : Profile) (bytes : List ℕ) (judging : Judging)
+    (kept : Engine) (old new : Tells) : Type 0 where
+  pub judged : JudgedTo view profile bytes judging kept
   pub written : new.written ≡ plus old.written (lines_in view profile bytes)
   pub room_left : (k : ℕ) → HasRoom old.room (length (lines_in view profile bytes) + k) →
       HasRoom new.room k
 
--- The capture is refused within these bytes: the lines before the refusal are written.
-pub record RefusedIn (view : View) (profile : Profile) (bytes : List ℕ) (s : Stop) (kept : Engine)
-    (old new : Tells) : Type 0 where
+-- The capture is refused within these bytes, and these are the lines before the refusal.
+pub record RefusedTo (view : View) (profile : Profile) (bytes : List ℕ) (s : Stop) (kept : Engine)
+    (before : List ℕ) : Type 0 where
   pub profile_is : kept.profile ≡ profile
   pub known : stop_status s ≤ 6
-  pub before : List ℕ
-  pub written : new.written ≡ plus old.written before
-  pub room_left : (k : ℕ) → HasRoom old.room (length before + k) → HasRoom new.room k
   pub same_text : (more : List ℕ) (how : How) → text view profile (reading (bytes ++ more)) how
       ≡ before ++ (summary view (tally_after profile
       (judged_items profile (reading (bytes ++ more)))) ++ stop_text s)
@@ -92,16 +93,25 @@ pub record RefusedIn (view : View) (profile : Profile) (bytes : List ℕ) (s : S
   pub lines_are : (more : List ℕ) →
       before ≡ lines_after view profile [] (judged_items profile (reading (bytes ++ more)))
 
--- The sink failed within the lines of one of these items: the engine stands for those up to this
--- one, it included, and the lines of those before it were written.
+-- And these are written.
+pub record RefusedIn (view : View) (profile : Profile) (bytes : List ℕ) (s : Stop) (kept : Engine)
+    (old new : Tells) : Type 0 where
+  pub before : List ℕ
+  pub refused : RefusedTo view profile bytes s kept before
+  pub written : new.written ≡ plus old.written before
+  pub room_left : (k : ℕ) → HasRoom old.room (length before + k) → HasRoom new.room k
+
+-- The sink failed within the lines of one of these items: the engine stands for a front of the items
+-- that has this one, and the lines of those before it were written.
 pub record LostAtItem (view : View) (profile : Profile) (items : List Entry) (kept : Engine)
     (old new : Option (List ℕ)) : Type 0 where
   pub before : List Entry
   pub item : Entry
+  pub since : List Entry
   pub behind : List Entry
-  pub items_are : items ≡ before ++ item ∷ behind
-  pub none_refused : refusal profile [] (before ++ item ∷ []) ≡ None
-  pub engine_stands : engine.StandsFor kept (item ∷ history_after [] before)
+  pub items_are : items ≡ before ++ item ∷ (since ++ behind)
+  pub none_refused : refusal profile [] (before ++ item ∷ since) ≡ None
+  pub engine_stands : engine.StandsFor kept (history_after [] (before ++ item ∷ since))
   pub part : Partly (plus old (lines_after view profile [] before)) new
       (lines_at view profile (history_after [] before) item)
 
@@ -124,9 +134,30 @@ pub record CutIn (view : View) (profile : Profile) (bytes : List ℕ) (kept : En
   pub no_room : (more : List ℕ) (how : How) →
       HasRoom old.room (length (text view profile (reading (bytes ++ more)) how)) → ⊥
 
--- What an item leads to. It is judged, and its lines are written.
+-- ---- lines that are gathered before they are written
+
+-- These lines came behind those that were held: so many bytes were sent, and the others are held
+-- now.
+pub record Gathers (held held' lines : List ℕ) (old new : Tells) : Type 0 where
+  pub sent : List ℕ
+  pub written : new.written ≡ plus old.written sent
+  pub in_order : sent ++ held' ≡ held ++ lines
+  pub room_left : (k : ℕ) → HasRoom old.room (length (held ++ lines) + k) →
+      HasRoom new.room (length held' + k)
+
+-- Or the sink failed within this text, for which it had no room.
+pub record Fails (text : List ℕ) (old new : Tells) : Type 0 where
+  pub part : Partly old.written new.written text
+  pub no_room : HasRoom old.room (length text) → ⊥
+
+abbrev pub AreGathered : {T : Type 0} → Result T Failed → List ℕ → List ℕ → List ℕ →
+    Tells → Tells → Type 0
+AreGathered (Ok value) held held' lines old new = Gathers held held' lines old new
+AreGathered (Err failed) held held' lines old new = Fails (held ++ lines) old new
+
+-- What an item leads to. It is judged, and its lines are gathered.
 pub record Accepts (view : View) (past : List Entry) (x : Entry) (judging judging' : Judging)
-    (kept kept' : Engine) (old new : Tells) : Type 0 where
+    (kept kept' : Engine) (held held' : List ℕ) (old new : Tells) : Type 0 where
   pub profile_is : kept'.profile ≡ kept.profile
   pub allowed : blocked kept.profile past x ≡ None
   pub engine_stands : engine.StandsFor kept' (x ∷ past)
@@ -134,35 +165,56 @@ pub record Accepts (view : View) (past : List Entry) (x : Entry) (judging judgin
   pub listed : judging'.listed ≡ judging.listed + listed view (x ∷ [])
   pub verdicts : judging'.verdicts ≡
       judging.verdicts + length (verdicts_at kept.profile past x)
-  pub written : new.written ≡ plus old.written (lines_at view kept.profile past x)
-  pub room_left : (k : ℕ) →
-      HasRoom old.room (length (lines_at view kept.profile past x) + k) → HasRoom new.room k
+  pub gathers : Gathers held held' (lines_at view kept.profile past x) old new
 
 -- Or the engine refuses it.
 pub record Blocks (past : List Entry) (x : Entry) (s : Stop) (kept kept' : Engine)
-    (old new : Tells) : Type 0 where
+    (held held' : List ℕ) (old new : Tells) : Type 0 where
   pub same_engine : kept' ≡ kept
   pub refused : Refused
   pub is_blocked : blocked kept.profile past x ≡ Some refused
   pub stop_is : s ≡ stop_of refused (number_after past)
+  pub same_held : held' ≡ held
   pub same_written : new.written ≡ old.written
   pub same_room : new.room ≡ old.room
 
--- Or the sink fails within its lines.
+-- Or the sink fails within what is held and its lines.
 pub record Loses (view : View) (past : List Entry) (x : Entry) (kept kept' : Engine)
-    (old new : Tells) : Type 0 where
+    (held : List ℕ) (old new : Tells) : Type 0 where
   pub allowed : blocked kept.profile past x ≡ None
   pub engine_stands : engine.StandsFor kept' (x ∷ past)
-  pub part : Partly old.written new.written (lines_at view kept.profile past x)
-  pub no_room : HasRoom old.room (length (lines_at view kept.profile past x)) → ⊥
+  pub fails : Fails (held ++ lines_at view kept.profile past x) old new
 
 abbrev pub ItemJudged : View → List Entry → Entry → Result (Option Stop) Failed →
-    Judging → Judging → Engine → Engine → Tells → Tells → Type 0
-ItemJudged v past x (Ok None) j j' k k' old new = Accepts v past x j j' k k' old new
-ItemJudged v past x (Ok (Some s)) j j' k k' old new = Blocks past x s k k' old new
-ItemJudged v past x (Err failed) j j' k k' old new = Loses v past x k k' old new
+    Judging → Judging → Engine → Engine → List ℕ → List ℕ → Tells → Tells → Type 0
+ItemJudged v past x (Ok None) j j' k k' held held' old new =
+    Accepts v past x j j' k k' held held' old new
+ItemJudged v past x (Ok (Some s)) j j' k k' held held' old new =
+    Blocks past x s k k' held held' old new
+ItemJudged v past x (Err failed) j j' k k' held held' old new = Loses v past x k k' held old new
 
--- What a piece leads to, with the bytes before it.
+-- All whole items of these bytes were judged, and what isn't written of their lines is held.
+pub record Gathering (view : View) (profile : Profile) (bytes : List ℕ) (judging : Judging)
+    (kept : Engine) (held : List ℕ) (old new : Tells) : Type 0 where
+  pub judged : JudgedTo view profile bytes judging kept
+  pub gathers : Gathers [] held (lines_in view profile bytes) old new
+
+-- The capture is refused within these bytes, and what isn't written of the lines before the refusal
+-- is held.
+pub record RefusedHolding (view : View) (profile : Profile) (bytes : List ℕ) (s : Stop)
+    (kept : Engine) (held : List ℕ) (old new : Tells) : Type 0 where
+  pub before : List ℕ
+  pub refused : RefusedTo view profile bytes s kept before
+  pub gathers : Gathers [] held before old new
+
+-- What the items of a piece lead to, with the bytes before it.
+abbrev pub PieceGathered : View → Profile → List ℕ → Result (Option Stop) Failed → Judging →
+    Engine → List ℕ → Tells → Tells → Type 0
+PieceGathered v p bytes (Ok None) j k held old new = Gathering v p bytes j k held old new
+PieceGathered v p bytes (Ok (Some s)) j k held old new = RefusedHolding v p bytes s k held old new
+PieceGathered v p bytes (Err failed) j k held old new = CutIn v p bytes k old new
+
+-- What a piece leads to, once what is held is written.
 abbrev pub PieceJudged : View → Profile → List ℕ → Result (Option Stop) Failed → Judging →
     Engine → Tells → Tells → Type 0
 PieceJudged v p bytes (Ok None) j k old new = SoFar v p bytes j k old new

@@ -34,9 +34,9 @@ pub record ShowsWith {H O : Type 0} (S : shelf.Ghosts H) (T : sink.Ghosts O) (vi
       × (cause kept.profile (reading read) Fault ≡ AtFault)
       × (T.written out' ≡ plus (T.written out) (cut view kept.profile read))
       × engine.StandsFor kept' (history_after [] (reading read).items)
-  -- Where the sink failed, the engine stands for the items up to the one within whose lines it
-  -- failed, it included; or for all that are judged of what was read, where it failed within the
-  -- last lines.
+  -- Where the sink failed, the engine stands for a front of the items that has the one within whose
+  -- lines it failed; or for all that are judged of what was read, where it failed within the last
+  -- lines.
   pub lost : S.told old ≡ true → (b : List ℕ) → S.file old capture ≡ Some b →
       answer ≡ WRITE_FAULT →
       (read : List ℕ) × ReadOf b (S.is_open new) (S.rest new) read

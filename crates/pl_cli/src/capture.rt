@@ -9,10 +9,12 @@ ghost use Rattle.pl_capture.specs.Entry.{Entry};
 ghost use Rattle.pl_capture.specs.Standing.{Holding};
 ghost use Rattle.pl_engine.specs.Engine.{StandsFor};
 ghost use Rattle.pl_profile.specs.declared.profile.Profile.{Profile};
-ghost use Rattle.pl_cli.specs.Progress.{ItemJudged, LooksBehind, PieceJudged, ReadJudged};
-ghost use Rattle.pl_cli.specs.Progress.{ShelfCause, SoFar, Tells, is_fault, meant, tells};
+ghost use Rattle.pl_cli.specs.Progress.{ItemJudged, LooksBehind, PieceGathered, PieceJudged};
+ghost use Rattle.pl_cli.specs.Progress.{ReadJudged, ShelfCause, SoFar, Tells, is_fault, meant};
+ghost use Rattle.pl_cli.specs.Progress.{tells};
 
-use crate::item::write_item;
+use crate::held::Held;
+use crate::item::gather_item;
 use crate::judging::{Ended, Judging};
 use crate::view::View;
 use pl_base::{Found, MOST_VERDICTS, Stop};
@@ -53,6 +55,7 @@ pub(crate) fn read_pieces<H: Shelf, O: Sink>(
     ensures cause { HasCause (O.faults out.old) (O.faults out.new) result }
 {
     let mut buffer = [0; 4096];
+    let mut held = Held::new();
     let mut taken = 0;
     while taken < MOST_BYTES {
         let most = (MOST_BYTES - taken).min(buffer.len());
@@ -64,7 +67,7 @@ pub(crate) fn read_pieces<H: Shelf, O: Sink>(
             return Ok(Ended::Whole);
         }
         taken += count;
-        match judge_piece(view, judging, engine, &buffer[..count], out) {
+        match judge_piece(view, judging, engine, &buffer[..count], &mut held, out) {
             Ok(None) => {}
             Ok(Some(stop)) => return Ok(Ended::Refused(stop)),
             Err(failed) => return Err(failed),
@@ -118,12 +121,14 @@ fn look_behind<H: Shelf>(shelf: &mut H, buffer: &mut [u8]) -> Ended
     }
 }
 
-/// Judges the items that become whole in a piece, up to a refusal.
+/// Judges the items that become whole in a piece, up to a refusal, and writes what is shown of
+/// them. Nothing is held before, nor behind it.
 fn judge_piece<O: Sink>(
     view: &View<'_>,
     judging: &mut Judging,
     engine: &mut Engine,
     piece: &[u8],
+    held: &mut Held,
     out: &mut O,
 ) -> Result<Option<Stop>, Failed>
     requires place { judging.old.reader.place + length piece.now < 2 ^ 58 }
@@ -131,10 +136,50 @@ fn judge_piece<O: Sink>(
     requires listed { judging.old.listed ≤ judging.old.items }
     requires verdicts { judging.old.verdicts ≤ judging.old.items * MOST_VERDICTS }
     requires engine { engine.old.items + length piece.now < 2 ^ 58 }
+    requires none { held.old.bytes.items ≡ [] }
     ensures judged { (p : Profile) (before : List ℕ) (start : Tells) →
         SoFar (meant view.now) p before judging.old engine.old start (tells O.Sink out.old) →
         PieceJudged (meant view.now) p (before ++ piece.now) result judging.new engine.new
         start (tells O.Sink out.new) }
+    ensures place { OnOk result
+        (judging.new.reader.place ≤ judging.old.reader.place + length piece.now) }
+    ensures items { OnOk result (judging.new.items ≤ judging.old.items + length piece.now) }
+    ensures listed { OnOk result (judging.new.listed ≤ judging.new.items) }
+    ensures verdicts { OnOk result (judging.new.verdicts ≤ judging.new.items * MOST_VERDICTS) }
+    ensures engine { OnOk result (engine.new.items ≤ engine.old.items + length piece.now) }
+    ensures none { OnOk result (held.new.bytes.items ≡ []) }
+    ensures cause { HasCause (O.faults out.old) (O.faults out.new) result }
+{
+    let stop = match judge_items(view, judging, engine, piece, held, out) {
+        Ok(stop) => stop,
+        Err(failed) => return Err(failed),
+    };
+    match held.write(out) {
+        Ok(()) => Ok(stop),
+        Err(failed) => Err(failed),
+    }
+}
+
+/// Judges the items that become whole in a piece, up to a refusal, and gathers what is shown of
+/// them.
+fn judge_items<O: Sink>(
+    view: &View<'_>,
+    judging: &mut Judging,
+    engine: &mut Engine,
+    piece: &[u8],
+    held: &mut Held,
+    out: &mut O,
+) -> Result<Option<Stop>, Failed>
+    requires place { judging.old.reader.place + length piece.now < 2 ^ 58 }
+    requires items { judging.old.items + length piece.now < 2 ^ 58 }
+    requires listed { judging.old.listed ≤ judging.old.items }
+    requires verdicts { judging.old.verdicts ≤ judging.old.items * MOST_VERDICTS }
+    requires engine { engine.old.items + length piece.now < 2 ^ 58 }
+    requires none { held.old.bytes.items ≡ [] }
+    ensures judged { (p : Profile) (before : List ℕ) (start : Tells) →
+        SoFar (meant view.now) p before judging.old engine.old start (tells O.Sink out.old) →
+        PieceGathered (meant view.now) p (before ++ piece.now) result judging.new engine.new
+        held.new.bytes.items start (tells O.Sink out.new) }
     ensures place { OnOk result
         (judging.new.reader.place ≤ judging.old.reader.place + length piece.now) }
     ensures items { OnOk result (judging.new.items ≤ judging.old.items + length piece.now) }
@@ -152,7 +197,7 @@ fn judge_piece<O: Sink>(
             Step::Bad(stop) => return Ok(Some(stop)),
             Step::Item { used } => {
                 place += used;
-                match judge_item(view, judging, engine, &mut found, out) {
+                match judge_item(view, judging, engine, &mut found, held, out) {
                     Ok(None) => {}
                     Ok(Some(stop)) => return Ok(Some(stop)),
                     Err(failed) => return Err(failed),
@@ -163,13 +208,14 @@ fn judge_piece<O: Sink>(
     Ok(None)
 }
 
-/// Judges the item that the reader lends, and writes what is shown of it. Some where the engine
+/// Judges the item that the reader lends, and gathers what is shown of it. Some where the engine
 /// refuses it. The list `found` is empty before, and again behind the lines.
 fn judge_item<O: Sink>(
     view: &View<'_>,
     judging: &mut Judging,
     engine: &mut Engine,
     found: &mut Found,
+    held: &mut Held,
     out: &mut O,
 ) -> Result<Option<Stop>, Failed>
     requires holds { (x : Entry) × (judging.old.reader.phase ≡ Holding x) }
@@ -181,7 +227,7 @@ fn judge_item<O: Sink>(
     ensures judged { (past : List Entry) (x : Entry) → judging.old.reader.phase ≡ Holding x →
         StandsFor engine.old past → judging.old.items ≡ length past →
         ItemJudged (meant view.now) past x result judging.old judging.new engine.old engine.new
-        (tells O.Sink out.old) (tells O.Sink out.new) }
+        held.old.bytes.items held.new.bytes.items (tells O.Sink out.old) (tells O.Sink out.new) }
     ensures reader { judging.new.reader ≡ judging.old.reader }
     ensures items { judging.new.items ≤ judging.old.items + 1 }
     ensures listed { judging.new.listed ≤ judging.new.items }
@@ -195,7 +241,7 @@ fn judge_item<O: Sink>(
         None => unreachable!(),
     };
     match engine.feed_into(&item, found) {
-        Ok(()) => match write_item(view, judging.items + 1, &item, found, out) {
+        Ok(()) => match gather_item(view, judging.items + 1, &item, found, held, out) {
             Ok(listed) => {
                 judging.count(listed, found.len());
                 found.clear();

@@ -6,6 +6,7 @@ mod closing;
 mod command_line;
 mod commands;
 mod generated;
+mod held;
 mod item;
 mod judging;
 mod numbers;

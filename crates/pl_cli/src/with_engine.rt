@@ -23,7 +23,7 @@ use pl_io::{Failed, Shelf, Sink};
 /// It takes no memory and always returns. The status is 0 or 1 where the capture was read to its
 /// end, 4, 5 or 6 where it is refused, 7 where the shelf failed and 8 where the sink did. The
 /// engine then stands for the items that were judged, also after a fault: one within whose lines
-/// the sink failed is among them.
+/// the sink failed is among them, and others may have been judged behind it.
 pub fn check_with<H: Shelf, O: Sink>(
     engine: &mut Engine,
     capture: &str,

@@ -8,6 +8,7 @@ pub loop-taken-init : goal.loop-taken-init
 loop-taken-init g c = record {
   bound = search rules;
   buffer = search rules;
+  none = c.new-held.ensures;
   far = λ p f. far_start _ f;
   place = omega arith;
   items = omega arith;
@@ -26,6 +27,7 @@ pub loop-taken-preserved : goal.loop-taken-preserved
 loop-taken-preserved g c = record {
   bound = omega (arith, c.in-Ok.ensures.most);
   buffer = search rules;
+  none = c.in-Ok-None.ensures.none;
   far = λ p f. far_on (take c.in-Ok.count c.read_front.new.buffer) c.in-Ok.count (c.loop-taken.invariant.far p f) c.in-Ok.ensures.bytes
       (omega (arith, c.in-Ok.ensures.most, length-take c.in-Ok.count c.read_front.new.buffer))
       (λ so_far. rw c.in-Ok-None.field-0-is at (c.in-Ok-None.ensures.judged p _ _ so_far));

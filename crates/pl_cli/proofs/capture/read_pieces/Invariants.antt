@@ -9,6 +9,7 @@ abbrev pub invariant-loop-taken : goal.invariant-loop-taken
 invariant-loop-taken g l = record {
   bound : l.taken ≤ 2 ^ 40;
   buffer : length l.buffer ≡ 4096;
+  none : l.held.bytes.items ≡ [];
   far : (p : Profile) →
       SoFar (meant l.view) p [] l.initial.judging l.initial.engine (tells g.O.Sink l.initial.out) (tells g.O.Sink l.initial.out) →
       Far (meant l.view) p l.judging l.engine (tells g.O.Sink l.initial.out) (tells g.O.Sink l.out) (g.H.Shelf.rest l.initial.shelf) (g.H.Shelf.rest l.shelf) l.taken;

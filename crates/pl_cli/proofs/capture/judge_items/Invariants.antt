@@ -1,15 +1,15 @@
 use Rattle.std.proofs.Common.{◌≡◌, ◌≤◌, ◌+◌, ◌*◌, ◌-◌, ◌++◌, ℕ, List, [], length, take}
 use Rattle.pl_base.specs.declared.verdict.TheConstants.{MOST_VERDICTS}
 use Rattle.pl_profile.specs.declared.profile.Profile.{Profile}
-use Rattle.pl_cli.specs.Progress.{SoFar, Tells, meant, tells}
-use Rattle.pl_cli.proofs.capture.judge_piece.Given as goal
+use Rattle.pl_cli.specs.Progress.{Gathering, SoFar, Tells, meant, tells}
+use Rattle.pl_cli.proofs.capture.judge_items.Given as goal
 
 abbrev pub invariant-loop-place : goal.invariant-loop-place
 invariant-loop-place g l = record {
   bound : l.place ≤ length l.piece;
   so_far : (p : Profile) (before : List ℕ) (start : Tells) →
       SoFar (meant l.view) p before l.initial.judging l.initial.engine start (tells g.O.Sink l.initial.out) →
-      SoFar (meant l.view) p (before ++ take l.place l.piece) l.judging l.engine start (tells g.O.Sink l.out);
+      Gathering (meant l.view) p (before ++ take l.place l.piece) l.judging l.engine l.held.bytes.items start (tells g.O.Sink l.out);
   none : l.found.items ≡ [];
   reader : l.judging.reader.place ≤ l.initial.judging.reader.place + l.place;
   items : l.judging.items ≤ l.initial.judging.items + l.place;
