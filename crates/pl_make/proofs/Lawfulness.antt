@@ -5,7 +5,7 @@ use Rattle.std.specs.List.{AllByRecursion}
 use Rattle.std.proofs.lemmas.List.{length-append}
 use Rattle.byteorder.specs.Endian.{big_bytes}
 use Rattle.pl_base.specs.declared.link.Dir.{Dir}
-use Rattle.pl_capture.specs.Entry.{Entry, IsLawful}
+use Rattle.pl_capture.specs.Entry.{Entry, IsLawfulIn}
 use Rattle.pl_crc.specs.Remainder.{crc16_of, crc32_of}
 use Rattle.pl_crc.proofs.Lengths.{length-crc16_of, length-crc32_of}
 use Rattle.pl_dllp.specs.declared.packet.Fc.{Fc}
@@ -39,15 +39,17 @@ unfolding credit_bytes
 credit_length fc = with_crc_length _ (placed_length 0 4 (credit_fields fc))
 
 dllp_lawful : (time : ℕ) (dir : Dir) (bytes : List ℕ) → length bytes ≡ 6 → time < 2 ^ 64
-    → IsLawful (dllp time dir bytes)
+    → IsLawfulIn 1 (dllp time dir bytes)
 dllp_lawful time dir bytes size lt =
     record {
-      tlp = λ e. absurd (let f = e in cc);
-      dllp = λ e. (size, refl);
-      link_down =
-          λ e. absurd (let f = e in cc);
-      gap = λ e. absurd (let f = e in cc);
-      time = lt;
+      lawful = record {
+        tlp = λ e. absurd (let f = e in cc);
+        dllp = λ e. (size, refl);
+        link_down = λ e. absurd (let f = e in cc);
+        gap = λ e. absurd (let f = e in cc);
+        time = lt;
+      };
+      allowed = λ e. absurd (let f = e in cc);
     }
 
 framed_length : (number : ℕ) (bytes : List ℕ) → length (framed number bytes) ≡ 6 + length bytes
@@ -73,27 +75,29 @@ tlp_length x plain =
     omega arith
 
 tlp_lawful : (time : ℕ) (dir : Dir) (number : ℕ) (x : Fields) → IsPlain x → time < 2 ^ 64
-    → IsLawful (tlp time dir number x)
+    → IsLawfulIn 1 (tlp time dir number x)
 tlp_lawful time dir number x plain lt =
     let whole = framed_length number (tlp_bytes x) in
     let size = tlp_length x plain in
     let payload = plain.payload in
     record {
-      tlp = λ e. (omega arith, omega arith);
-      dllp =
-          λ e. absurd (let f = e in cc);
-      link_down = λ e. absurd (let f = e in cc);
-      gap = λ e. absurd (let f = e in cc);
-      time = lt;
+      lawful = record {
+        tlp = λ e. (omega arith, omega arith);
+        dllp = λ e. absurd (let f = e in cc);
+        link_down = λ e. absurd (let f = e in cc);
+        gap = λ e. absurd (let f = e in cc);
+        time = lt;
+      };
+      allowed = λ e. absurd (let f = e in cc);
     }
 
-all_append : (xs ys : List Entry) → AllByRecursion IsLawful xs → AllByRecursion IsLawful ys
-    → AllByRecursion IsLawful (xs ++ ys)
+all_append : (xs ys : List Entry) → AllByRecursion (IsLawfulIn 1) xs → AllByRecursion (IsLawfulIn 1) ys
+    → AllByRecursion (IsLawfulIn 1) (xs ++ ys)
 all_append [] ys a b = b
 all_append (x ∷ xs) ys a b = (a.0, all_append xs ys a.1 b)
 
 bring_up_lawful : (stage : Stage) (first : ℕ) → first ≤ 7
-    → AllByRecursion IsLawful (bring_up stage first)
+    → AllByRecursion (IsLawfulIn 1) (bring_up stage first)
 bring_up_lawful stage first le = (
   dllp_lawful _ _ _ (credit_length _) (omega arith),
   (
@@ -115,7 +119,7 @@ lengths_drawn : (x : ℕ) → ((drawn x).before ≤ 16) × ((drawn x).behind ≤
 unfolding drawn
 lengths_drawn x = (omega arith, omega arith)
 
-round_lawful : (k x : ℕ) → k < 1000000 → AllByRecursion IsLawful (round k x)
+round_lawful : (k x : ℕ) → k < 1000000 → AllByRecursion (IsLawfulIn 1) (round k x)
 unfolding round
 round_lawful k x lt =
     let most = lengths_drawn x in (
@@ -135,7 +139,7 @@ round_lawful k x lt =
       ),
     )
 
-rounds_lawful : (x k n : ℕ) → k + n ≤ 1000000 → AllByRecursion IsLawful (rounds x k n)
+rounds_lawful : (x k n : ℕ) → k + n ≤ 1000000 → AllByRecursion (IsLawfulIn 1) (rounds x k n)
 unfolding rounds
 rounds_lawful x k zero le = tt
 rounds_lawful x k (suc n) le =
@@ -143,7 +147,7 @@ rounds_lawful x k (suc n) le =
     (round_lawful k (step x) (omega arith)) (rounds_lawful (step x) (suc k) n (omega arith))
 
 pub items_lawful : (number count : ℕ) → count ≤ 1000000
-    → AllByRecursion IsLawful (items number count)
+    → AllByRecursion (IsLawfulIn 1) (items number count)
 unfolding items
 items_lawful number count most =
     all_append (bring_up Init1 1 ++ bring_up Init2 7) (rounds number 0 count)

@@ -1,4 +1,4 @@
-use Rattle.std.proofs.Common.{arith, lit<}
+use Rattle.std.proofs.Common.{arith, inl, lit<, refl}
 use Rattle.pl_make.specs.Generated.{Gen, items}
 use Rattle.pl_make.proofs.Lefts.{items_length}
 use Rattle.pl_make.proofs.Lawfulness.{items_lawful}
@@ -7,5 +7,5 @@ use Rattle.pl_make.proofs.laws.read_as_items.Goals as goal
 pub returns : goal.returns
 unfolding Gen
 returns c = λ number count most.
-    c.reads_back.ensures (items number count) 0 (items_lawful number count most) (lit< tt)
+    c.reads_back.ensures 1 (items number count) 0 (inl refl) (items_lawful number count most) (lit< tt)
     (omega (arith, items_length number count))
