@@ -101,8 +101,8 @@ pub record RefusedIn (view : View) (profile : Profile) (bytes : List ℕ) (s : S
   pub written : new.written ≡ plus old.written before
   pub room_left : (k : ℕ) → HasRoom old.room (length before + k) → HasRoom new.room k
 
--- The sink failed within the lines of one of these items: the engine stands for a front of the items
--- that has this one, and the lines of those before it were written.
+-- The sink failed within the lines of one of these items: the engine stands for a front of the
+-- items that has this one, and the lines of those before it were written.
 pub record LostAtItem (view : View) (profile : Profile) (items : List Entry) (kept : Engine)
     (old new : Option (List ℕ)) : Type 0 where
   pub before : List Entry
