@@ -2,6 +2,7 @@
 ghost use Rattle.std.specs.Prelude.{◌≤◌, length, IfOk};
 ghost use Rattle.pl_keeper.specs.Archive.{longest_body};
 
+use hex::FromHexError;
 use pl_keeper::{Keeper, LONGEST_BODY};
 use std::alloc::Global;
 use std::io;
@@ -66,6 +67,7 @@ fn bytes_in(alloc: Global, digits: &str) -> io::Result<Vec<u8>>
 {
     match hex::decode(alloc, digits) {
         Ok(bytes) if bytes.len() <= LONGEST_BODY => Ok(bytes),
+        Err(FromHexError::OutOfMemory) => Err(io::Error::from(io::ErrorKind::OutOfMemory)),
         _ => Err(io::Error::from(io::ErrorKind::InvalidInput)),
     }
 }
