@@ -1,6 +1,15 @@
+mod Benches
 mod Compact
+mod Created
 mod Cuts
 mod Found
+mod Growing
+mod Kept
 mod Levels
+mod Once
 mod Parts
+mod Received
+mod Refused
+mod Sent
 mod Steps
+mod Texts
