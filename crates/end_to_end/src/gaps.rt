@@ -160,7 +160,10 @@ fn a_version_1_capture_has_no_gaps(rt: HostRuntime) -> Result<(), Fail> {
     let mut capture = notation.end()?;
     let outcome = check(rt.alloc(), &capture)?;
     assert!(rt; outcome.is(0, "end items 1 verdicts 0\n"), "{outcome:?}");
-    for (version, output) in [(1, "malformed 4 at item 1\n"), (3, "malformed 2 at item 0\n")] {
+    for (version, output) in [
+        (1, "malformed 4 at item 1\n"),
+        (3, "malformed 2 at item 0\n"),
+    ] {
         capture[9] = version;
         let outcome = check(rt.alloc(), &capture)?;
         assert!(rt; outcome.is(4, output), "{outcome:?}");
