@@ -165,4 +165,5 @@ items number count = bring_up Init1 1 ++ bring_up Init2 7 ++ rounds number 0 cou
 -- The capture's bytes: the end record's time is 0.
 unfoldable pub Gen : ℕ → ℕ → List ℕ
 Gen number count =
-    header_of 1 0 ++ flat_map record_of (items number count) ++ end_of (length (items number count)) 0
+    header_of 1 0 ++ flat_map record_of (items number count)
+    ++ end_of (length (items number count)) 0

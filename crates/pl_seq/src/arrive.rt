@@ -18,8 +18,8 @@ use crate::slot::LONGEST_TLP;
 use pl_base::{Body, Found, Rule, add_if};
 
 impl Lane {
-    /// A TLP that isn't whole, or that `Sequence::is_due` doesn't know to have the next number: what
-    /// it breaks of L1 and S1 to S4. Apart, since few are.
+    /// A TLP that isn't whole, or that `Sequence::is_due` doesn't know to have the next number:
+    /// what it breaks of L1 and S1 to S4. Apart, since few are.
     #[cold]
     #[inline(never)]
     pub(crate) fn tlp_apart(
