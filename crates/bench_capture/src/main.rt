@@ -1,8 +1,8 @@
-//! Reads a made capture in pieces of 4,096 bytes, and prints how many items it has and the sum of the last
-//! bytes of their bodies. `bench/capture/run` times it beside a memcpy of the same bytes.
+//! Reads a made capture in pieces of 4,096 bytes, and prints how many items it has and the sum of
+//! the last bytes of their bodies. `bench/capture/run` times it beside a memcpy of the same bytes.
 //!
-//! Words: RECORD BYTES ROUNDS [time]. A capture of about BYTES bytes, whose records have RECORD bytes each, is
-//! read ROUNDS times. With `time` it prints the nanoseconds too.
+//! Words: RECORD BYTES ROUNDS [time]. A capture of about BYTES bytes, whose records have RECORD
+//! bytes each, is read ROUNDS times. With `time` it prints the nanoseconds too.
 #![tactic(auto)]
 
 mod work;

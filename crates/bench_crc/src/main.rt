@@ -1,8 +1,9 @@
-//! Computes a CRC of each piece of a made buffer, and prints what all of them come to. `bench/crc/run` times it
-//! beside the same work in C.
+//! Computes a CRC of each piece of a made buffer, and prints what all of them come to.
+//! `bench/crc/run` times it beside the same work in C.
 //!
-//! Words: KIND BYTES LEAST MOST ROUNDS [time]. KIND is `crc32` or `crc16`. A buffer of BYTES bytes is cut into
-//! pieces of LEAST to MOST bytes, which are gone through ROUNDS times. With `time` it prints the nanoseconds too.
+//! Words: KIND BYTES LEAST MOST ROUNDS [time]. KIND is `crc32` or `crc16`. A buffer of BYTES bytes
+//! is cut into pieces of LEAST to MOST bytes, which are gone through ROUNDS times. With `time` it
+//! prints the nanoseconds too.
 #![tactic(auto)]
 
 mod work;

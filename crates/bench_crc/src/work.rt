@@ -47,7 +47,8 @@ impl Work {
         Ok(buffer)
     }
 
-    /// The pieces of `buffer` one after another, whose lengths go through `least` to `most` in steps of 37.
+    /// The pieces of `buffer` one after another, whose lengths go through `least` to `most` in
+    /// steps of 37.
     pub fn pieces<'a>(&self, alloc: Global, buffer: &'a [u8]) -> Result<Vec<&'a [u8]>, AllocError> {
         let lengths = self.most.saturating_sub(self.least).saturating_add(1);
         let mut pieces = Vec::new(alloc);

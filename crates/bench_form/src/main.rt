@@ -1,8 +1,9 @@
-//! Judges three lawful TLPs by the formation rules, each apart, and prints what the verdicts come to: 0.
-//! `bench/form/run` times it beside the same rules in plain Rust.
+//! Judges three lawful TLPs by the formation rules, each apart, and prints what the verdicts come
+//! to: 0. `bench/form/run` times it beside the same rules in plain Rust.
 //!
-//! Words: ROUNDS [time]. Each TLP is judged so many times into one list, and so many times into a list of its own.
-//! With `time` it prints the nanoseconds of both for the read, the write and the completion too.
+//! Words: ROUNDS [time]. Each TLP is judged so many times into one list, and so many times into a
+//! list of its own. With `time` it prints the nanoseconds of both for the read, the write and the
+//! completion too.
 #![tactic(auto)]
 
 ghost use Rattle.pl_form.specs.Verdicts.{HasHeaderIfWhole};
@@ -67,7 +68,8 @@ fn added(profile: &Profile, seen: &View, rounds: u32) -> u64
     total
 }
 
-/// What the verdicts on a TLP come to that is judged so many times, each time into a list of its own.
+/// What the verdicts on a TLP come to that is judged so many times, each time into a list of its
+/// own.
 fn judged(profile: &Profile, seen: &View, rounds: u32) -> u64
     requires fits { FitsIfWhole (outcome seen.now) }
     requires header { HasHeaderIfWhole (outcome seen.now) }

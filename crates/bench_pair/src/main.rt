@@ -1,7 +1,8 @@
 //! Makes and answers memory reads of 64 bytes, to be timed from outside.
 //!
-//! Words: how many requests are open at once, 1 to 262,143, and how many are made and answered while so many are. It
-//! prints how many items break a rule, 0, and how many requests are still open.
+//! Words: how many requests are open at once, 1 to 262,143, and how many are made and answered
+//! while so many are. It prints how many items break a rule, 0, and how many requests are still
+//! open.
 #![tactic(auto)]
 
 ghost use Rattle.std.specs.Prelude.{◌≡◌, ◌<◌, ◌≤◌, true};
@@ -104,7 +105,8 @@ fn completion(number: u32) -> Tlp<'static>
     }
 }
 
-/// Makes so many requests, and then one more each time before the oldest is answered: how many items break a rule.
+/// Makes so many requests, and then one more each time before the oldest is answered: how many
+/// items break a rule.
 fn traffic(pairs: &mut Pairs, profile: &Profile, open: u32, requests: u32) -> u64 {
     let mut found = Found::new();
     let mut broken = 0;

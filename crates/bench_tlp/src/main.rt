@@ -1,7 +1,8 @@
-//! Views a made mix of TLPs, and prints what all their fields come to. `bench/tlp/run` times it beside the same
-//! work in plain Rust.
+//! Views a made mix of TLPs, and prints what all their fields come to. `bench/tlp/run` times it
+//! beside the same work in plain Rust.
 //!
-//! Words: COUNT ROUNDS [time]. COUNT TLPs are gone through ROUNDS times. With `time` it prints the nanoseconds too.
+//! Words: COUNT ROUNDS [time]. COUNT TLPs are gone through ROUNDS times. With `time` it prints the
+//! nanoseconds too.
 #![tactic(auto)]
 
 mod mix;

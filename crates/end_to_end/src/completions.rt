@@ -122,7 +122,8 @@ fn all_ten_bits_of_a_tag_tell_transactions_apart(rt: HostRuntime) -> Result<(), 
             ),
             Case::under(
                 "tag_bits = 10",
-                "B0; 13 Up MRd n=0 tag=105 addr=1000 len=1; 14 Down MRd n=0 tag=105 addr=1000 len=2; \
+                "B0; 13 Up MRd n=0 tag=105 addr=1000 len=1; \
+                 14 Down MRd n=0 tag=105 addr=1000 len=2; \
                  15 Up CplD n=1 tag=105 bc=8 la=0 len=2; 16 Down CplD n=1 tag=105 bc=4 la=0 len=1",
                 0,
                 "end items 16 verdicts 0",

@@ -66,7 +66,8 @@ fn a_report_counts_what_a_capture_holds(rt: HostRuntime) -> Result<(), Fail> {
     )
 }
 
-/// Of the six TLPs one is nullified, one is taken and comes again, two skip numbers, one is spoiled.
+/// Of the six TLPs one is nullified, one is taken and comes again, two skip numbers and one is
+/// spoiled.
 #[test]
 fn a_report_tells_how_each_tlp_arrived_and_which_rules_broke(rt: HostRuntime) -> Result<(), Fail> {
     let rows = "B0; 13 Up MWr n=0 nullified; 14 Up MWr n=0; 15 Up MWr n=0; 16 Up MWr n=5; \

@@ -223,7 +223,8 @@ trial_text number count = output Report usual_profile (Gen number count)
 abbrev pub trial_status : ℕ → ℕ → ℕ
 trial_status number count = status_of usual_profile (Gen number count)
 
--- `trial`: these, since the capture's bytes can always be read; or memory was wanting for the engine.
+-- `trial`: these, since the capture's bytes can always be read; or memory was wanting for the
+-- engine.
 pub data Trials {O : Type 0} (T : sink.Ghosts O) (number count : ℕ) (out out' : O) (answer : ℕ)
     : Type 0 where
   no_engine : out' ≡ out → answer ≡ NO_MEMORY → Trials T number count out out' answer

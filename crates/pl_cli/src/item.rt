@@ -3,12 +3,12 @@ ghost use Rattle.std.specs.Prelude.{◌≡◌, ◌+◌, ◌++◌, ℕ, length, I
 ghost use Rattle.pl_io.specs.Faults.{HasCause};
 ghost use Rattle.pl_io.specs.Told.{plus, HasRoom, Partly};
 ghost use Rattle.pl_capture.specs.Entry.{IsLawful, view as entry};
-ghost use Rattle.pl_report.specs.Lines.{item_text};
+ghost use Rattle.pl_report.specs.Lines.{item_text, verdict_text};
 ghost use Rattle.pl_cli.specs.Output.{is_listed, item_lines, lines};
 ghost use Rattle.pl_cli.specs.Progress.{meant};
 
 use crate::view::View;
-use pl_base::Found;
+use pl_base::{Found, Verdict};
 use pl_capture::Item;
 use pl_filter::holds;
 use pl_io::{Failed, Sink, write_all};
@@ -55,7 +55,8 @@ pub(crate) fn write_item<O: Sink>(
     }
 }
 
-/// Writes the line of an item and those of its verdicts.
+/// Writes the line of an item and those of its verdicts. Apart, since only a list has any.
+#[inline(never)]
 fn write_with_verdicts<O: Sink>(
     number: u64,
     item: &Item<'_>,
@@ -81,6 +82,7 @@ fn write_with_verdicts<O: Sink>(
 }
 
 /// Writes the lines of an item's verdicts.
+#[inline(always)]
 fn write_verdicts<O: Sink>(found: &Found, out: &mut O) -> Result<(), Failed>
     ensures appended { OnOk result
         (O.written out.new ≡ plus (O.written out.old) (lines found.now.items)) }
@@ -93,10 +95,27 @@ fn write_verdicts<O: Sink>(found: &Found, out: &mut O) -> Result<(), Failed>
     ensures cause { HasCause (O.faults out.old) (O.faults out.new) result }
 {
     for verdict in found.as_slice() {
-        match write_all(out, verdict_line(verdict).as_bytes()) {
+        match write_verdict(verdict, out) {
             Ok(()) => {}
             Err(failed) => return Err(failed),
         }
     }
     Ok(())
+}
+
+/// Writes the line of a verdict. Apart, since few items have any.
+#[cold]
+#[inline(never)]
+fn write_verdict<O: Sink>(verdict: &Verdict, out: &mut O) -> Result<(), Failed>
+    ensures appended { OnOk result
+        (O.written out.new ≡ plus (O.written out.old) (verdict_text verdict.now)) }
+    ensures part { OnErr result
+        (Partly (O.written out.old) (O.written out.new) (verdict_text verdict.now)) }
+    ensures fits { HasRoom (O.room out.old) (length (verdict_text verdict.now)) → IsOk result }
+    ensures room_left { OnOk result ((k : ℕ) →
+        HasRoom (O.room out.old) (length (verdict_text verdict.now) + k) →
+        HasRoom (O.room out.new) k) }
+    ensures cause { HasCause (O.faults out.old) (O.faults out.new) result }
+{
+    write_all(out, verdict_line(verdict).as_bytes())
 }

@@ -39,7 +39,11 @@ pub fn judge(profile: &Profile, dir: Dir, view: &View, at: u64) -> Found
 
 /// Adds the verdicts on the TLP of item `at`, which travels in direction `dir`, to those that were
 /// found before: the formation rules that it breaks, in their order, and each cites nothing.
-#[tactic(auto, unfolding(crate::specs::Verdicts::formation_verdicts, crate::specs::Verdicts::whole_verdicts))]
+#[rattlefmt::skip]
+#[tactic(auto, unfolding(
+    crate::specs::Verdicts::formation_verdicts,
+    crate::specs::Verdicts::whole_verdicts,
+))]
 pub fn judge_into(profile: &Profile, dir: Dir, view: &View, at: u64, found: &mut Found)
     requires fits { FitsIfWhole (outcome view.now) }
     requires header { HasHeaderIfWhole (outcome view.now) }
@@ -70,7 +74,14 @@ fn judge_whole(profile: &Profile, dir: Dir, tlp: &Tlp, at: u64, found: &mut Foun
 }
 
 /// Adds what a TLP breaks of M3 to M15. The rules that can't apply to its kind aren't tried.
-#[tactic(auto, unfolding(crate::specs::Verdicts::kind_verdicts, crate::specs::Verdicts::memory_verdicts, crate::specs::Verdicts::configuration_verdicts, crate::specs::Verdicts::atomic_verdicts, crate::specs::Verdicts::message_verdicts))]
+#[rattlefmt::skip]
+#[tactic(auto, unfolding(
+    crate::specs::Verdicts::kind_verdicts,
+    crate::specs::Verdicts::memory_verdicts,
+    crate::specs::Verdicts::configuration_verdicts,
+    crate::specs::Verdicts::atomic_verdicts,
+    crate::specs::Verdicts::message_verdicts,
+))]
 fn judge_kind(profile: &Profile, dir: Dir, tlp: &Tlp, at: u64, found: &mut Found)
     requires length { 1 ≤ tlp.now.length }
     requires room { array_vec_len found.old + 13 ≤ MOST_VERDICTS }

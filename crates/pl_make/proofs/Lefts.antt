@@ -195,15 +195,16 @@ round_first k x index time draw bytes e i t d =
     let at : time ≡ 13 + 6 * k + 2 = omega arith in
     e ∙ rw (i, at, d) refl
 
-pub round_second : (k x index time : ℕ) (draw : Draw) (bytes : List ℕ)
+-- `left` apart, so that a wrong Byte Count fails at once, at an equation between numbers.
+pub round_second : (k x index time left : ℕ) (draw : Draw) (bytes : List ℕ)
     → bytes ≡ record_of (tlp time Down ((2 * k + 1) % 4096)
-    (completion k draw.behind draw.boundary draw.behind))
-    → index ≡ 3 → time ≡ 13 + 6 * k + index → draw ≡ drawn x → bytes
+    (completion k left draw.boundary draw.behind))
+    → left ≡ draw.behind → index ≡ 3 → time ≡ 13 + 6 * k + index → draw ≡ drawn x → bytes
     ≡ record_of (get_or (round k x) index nothing)
 unfolding round
-round_second k x index time draw bytes e i t d =
+round_second k x index time left draw bytes e l i t d =
     let at : time ≡ 13 + 6 * k + 3 = omega arith in
-    e ∙ rw (i, at, d) refl
+    e ∙ rw (l, i, at, d) refl
 
 pub round_later : (k x index time : ℕ) (bytes : List ℕ) → bytes
     ≡ record_of (dllp time Up (ack_bytes ((2 * k + 1) % 4096)))

@@ -9,8 +9,8 @@ ghost use Rattle.pl_tlp.specs.Fit.{Fits};
 ghost use Rattle.pl_index.specs.Table.{entries, limit, LacksRoomFor};
 ghost use Rattle.pl_profile.specs.declared.profile.Profile.{Profile};
 ghost use Rattle.pl_tlp.specs.Groups as kinds;
-ghost use Rattle.pl_pair.specs.History.{Completion, Event, Request, open_request, outstanding};
-ghost use Rattle.pl_pair.specs.History.{request_id};
+ghost use Rattle.pl_pair.specs.History.{Completion, Event, Gap, Request, open_request};
+ghost use Rattle.pl_pair.specs.History.{outstanding, request_id};
 ghost use Rattle.pl_pair.specs.Pairs.{StandsFor, key_of};
 ghost use Rattle.pl_pair.specs.Rules.{pair_verdicts};
 
@@ -26,7 +26,8 @@ use pl_tlp::Tlp;
 use std::alloc::{AllocError, Global};
 use std::marker::Model;
 
-/// The open requests of both directions since the link came up.
+/// The open requests of both directions in one span: since the link came up, or since a gap in the
+/// capture.
 ///
 /// Pairs keep no history: of each open request they keep what its completions are held against, how
 /// much of its data came, and which items verdicts cite. A request is forgotten as soon as a
@@ -35,11 +36,12 @@ use std::marker::Model;
 pub struct Pairs {
     table: Table<OpenRequest>,
     room: u32,
+    torn: bool,
 }
 
 impl Model for Pairs {
-    ghost use Rattle.std.specs.Prelude.{◌≡◌, ℕ, refl};
-    ghost use Rattle.std.specs.Coded.{code_by, coded×, coded_ℕ};
+    ghost use Rattle.std.specs.Prelude.{◌≡◌, ℕ, Bool, refl};
+    ghost use Rattle.std.specs.Coded.{code_by, coded×, coded_bool, coded_ℕ};
     ghost use Rattle.std.specs.FinMap as map;
     ghost use Rattle.std.specs.Ordering.{nat_cmp};
     ghost use Rattle.pl_index.specs.Table.{entries, limit};
@@ -49,11 +51,12 @@ impl Model for Pairs {
 
     ghost Value = { Kept };
 
-    ghost coded = { code_by (ℕ × map.FinMap nat_cmp OpenRequest)
-        (coded× coded_ℕ (map.code coded_ℕ requests.the_row.coded))
-        (λ kept. kept.table) (λ table. record { table = table }) (λ _. refl) };
+    ghost coded = { code_by (Bool × (ℕ × map.FinMap nat_cmp OpenRequest))
+        (coded× coded_bool (coded× coded_ℕ (map.code coded_ℕ requests.the_row.coded)))
+        (λ kept. (kept.torn, kept.table))
+        (λ kept. record { table = kept.1; torn = kept.0 }) (λ _. refl) };
 
-    ghost view = { λ p. record { table = p.table } };
+    ghost view = { λ p. record { table = p.table; torn = p.torn } };
 
     ghost invariant = { λ p. (limit p.table ≡ p.room) × AreOpen (entries p.table) };
 }
@@ -72,7 +75,11 @@ impl Pairs {
         ensures room { IfOk result (λ pairs. limit pairs.table ≡ room) }
     {
         let table = Table::open(alloc, room)?;
-        Ok(Pairs { table, room })
+        Ok(Pairs {
+            table,
+            room,
+            torn: false,
+        })
     }
 
     /// Begins a new span, as after a link down.
@@ -80,7 +87,27 @@ impl Pairs {
         ensures stands { StandsFor self.new [] }
         ensures room { limit self.new.table ≡ limit self.old.table }
     {
+        self.begin(false);
+    }
+
+    /// Begins a torn span, as after a gap in the capture: what came before is forgotten, and a
+    /// completion that names no open request breaks nothing, since its request may have come
+    /// before the gap.
+    pub fn gap(&mut self)
+        ensures stands { (past : List Event) → StandsFor self.new (Gap ∷ past) }
+        ensures room { limit self.new.table ≡ limit self.old.table }
+    {
+        self.begin(true);
+    }
+
+    /// Begins a span, torn or not, in which no request is open.
+    fn begin(&mut self, torn: bool)
+        ensures empty { entries self.new.table ≡ map.empty }
+        ensures torn { self.new.torn ≡ torn }
+        ensures room { limit self.new.table ≡ limit self.old.table }
+    {
         self.table.clear();
+        self.torn = torn;
     }
 
     /// How many requests are open.
@@ -161,8 +188,8 @@ impl Pairs {
     }
 
     /// A completion travels in direction `dir`, at position `at`: what it breaks of C3 to C10, or
-    /// C1 alone where it names no open request. From then on the pairs stand for the history with
-    /// it.
+    /// where it names no open request C1 alone, and in a torn span nothing. From then on the pairs
+    /// stand for the history with it.
     pub fn completion(&mut self, profile: &Profile, dir: Dir, tlp: &Tlp, at: u64) -> Found
         requires is { kinds.is_completion tlp.now.kind ≡ true }
         requires fits { Fits (fields tlp.now) }
@@ -202,7 +229,7 @@ impl Pairs {
     {
         let key = TransactionId::answered(dir, tlp).key();
         let Some(opened) = self.table.get(key) else {
-            add_if(found, true, Rule::C1, at, None, None);
+            add_if(found, !self.torn, Rule::C1, at, None, None);
             return;
         };
         judge_part(found, boundary_of(profile, dir), &opened, tlp, at);

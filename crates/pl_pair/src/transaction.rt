@@ -44,8 +44,8 @@ impl TransactionId {
         }
     }
 
-    /// Its key in a table, below 2^27: the direction, the 16 bits of the Requester ID and the ten of
-    /// the Tag beside each other.
+    /// Its key in a table, below 2^27: the direction, the 16 bits of the Requester ID and the ten
+    /// of the Tag beside each other.
     pub(crate) fn key(self) -> u32
         requires { IsInRange self }
         ensures { result ≡ key_of self }

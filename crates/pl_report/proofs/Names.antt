@@ -6,6 +6,6 @@ use Rattle.pl_base.specs.declared.rule.Rule.{Rule}
 use Rattle.pl_base.specs.declared.rule.Rule.TheVariants.{L1}
 
 -- each case computes
-pub is_short : (r : Rule) → length (name_of r) ≤ 3
-is_short L1 = omega arith
-is_short _ = omega arith
+pub short : (r : Rule) → length (name_of r) ≤ 3
+short L1 = omega arith
+short _ = omega arith

@@ -73,7 +73,7 @@ fn push_next(text: &mut String, verdict: &Verdict) -> Result<(), AllocError>
 }
 
 /// A verdict as an object, made without memory.
-#[tactic(auto, using(crate::proofs::Names::is_short), unfolding(crate::specs::Json::verdict_object))]
+#[tactic(auto, using(crate::proofs::Names::short), unfolding(crate::specs::Json::verdict_object))]
 fn verdict_object(v: &Verdict) -> Line
     ensures { result.bytes ≡ verdict_object v.now }
 {

@@ -144,7 +144,7 @@ fn every_rule() -> &'static [Rule; RULES]
 }
 
 /// `rule R N first I`: a rule, its verdicts, and the first item that breaks it.
-#[tactic(auto, using(crate::proofs::Names::is_short))]
+#[tactic(auto, using(crate::proofs::Names::short))]
 fn rule_line(tally: &Tally, rule: Rule) -> Line
     ensures { result.bytes ≡ rule_text tally.now rule }
 {

@@ -8,7 +8,7 @@ use pl_base::Verdict;
 
 /// `item I rule R first X second Y`: the judged item, the broken rule and the cited earlier items,
 /// each a number or `-` where the rule cites none.
-#[tactic(auto, using(crate::proofs::Names::is_short), unfolding(crate::specs::Lines::verdict_text))]
+#[tactic(auto, using(crate::proofs::Names::short), unfolding(crate::specs::Lines::verdict_text))]
 pub fn verdict_line(v: &Verdict) -> Line
     ensures { result.bytes ≡ verdict_text v.now }
 {

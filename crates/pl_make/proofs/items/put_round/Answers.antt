@@ -16,8 +16,8 @@ returns-in-2 c = round_first c.args.k c.args.x c.args.index _ c.of-draw.result _
     (rw c.start.ensures at c.put_completion.ensures) c.in-2.is (omega arith) c.of-draw.ensures.drawn
 
 pub returns-in-3 : goal.returns-in-3
-returns-in-3 c = round_second c.args.k c.args.x c.args.index _ c.of-draw.result _
-    c.put_completion-in-3.ensures c.in-3.is (omega arith) c.of-draw.ensures.drawn
+returns-in-3 c = round_second c.args.k c.args.x c.args.index _ _ c.of-draw.result _
+    c.put_completion-in-3.ensures refl c.in-3.is (omega arith) c.of-draw.ensures.drawn
 
 pub returns-in-4 : goal.returns-in-4
 returns-in-4 c = round_later c.args.k c.args.x c.args.index _ _

@@ -24,18 +24,18 @@ invariant_of-self-in-None c = (
 -- ---- the table stands for the history with the completion
 pub returns-in_default-clause-stands : goal.returns-in_default-clause-stands
 returns-in_default-clause-stands c =
-    stands-none c.args.self.now c.self.inside.table c.key-key.result c.args.dir (fields c.args.tlp.now) c.args.at c.self.view_is
+    stands-none c.args.self.now c.self.inside.table c.self.inside.torn c.key-key.result c.args.dir (fields c.args.tlp.now) c.args.at c.self.view_is
     (c.key-key.ensures ∙ ap key_of c.answered.ensures.id) (subst IsInRange c.answered.ensures.id c.answered.ensures.range)
     c.in_default.ensures
 
 pub returns-in-Some-after_part-clause-stands : goal.returns-in-Some-after_part-clause-stands
 returns-in-Some-after_part-clause-stands c =
-    stands-left_open c.args.self.now c.self.inside.table c.key-key.result c.args.dir (fields c.args.tlp.now) c.args.at c.self.view_is
+    stands-left_open c.args.self.now c.self.inside.table c.self.inside.torn c.key-key.result c.args.dir (fields c.args.tlp.now) c.args.at c.self.view_is
     (c.key-key.ensures ∙ ap key_of c.answered.ensures.id) (subst IsInRange c.answered.ensures.id c.answered.ensures.range)
     c.set.new.self c.in-Some.opened c.in-Some.ensures c.in-Some-after_part.opened c.in-Some-after_part.ensures.after c.set.ensures.set
 
 pub returns-in-None-clause-stands : goal.returns-in-None-clause-stands
 returns-in-None-clause-stands c =
-    stands-ended c.args.self.now c.self.inside.table c.key-key.result c.args.dir (fields c.args.tlp.now) c.args.at c.self.view_is
+    stands-ended c.args.self.now c.self.inside.table c.self.inside.torn c.key-key.result c.args.dir (fields c.args.tlp.now) c.args.at c.self.view_is
     (c.key-key.ensures ∙ ap key_of c.answered.ensures.id) (subst IsInRange c.answered.ensures.id c.answered.ensures.range)
     c.take.new.self c.in-Some.opened c.in-Some.ensures c.in-None.ensures.after c.take.ensures.taken

@@ -1,4 +1,4 @@
-use Rattle.std.proofs.Common.{Some, ap, ◌∙◌, sym, subst}
+use Rattle.std.proofs.Common.{refl, Some, ap, ◌∙◌, sym, subst}
 use Rattle.pl_index.specs.Table.{entries}
 use Rattle.pl_tlp.specs.Fields.{fields}
 use Rattle.pl_pair.specs.History.{request_id}
@@ -10,7 +10,7 @@ pub invariant_of-self : goal.invariant_of-self
 invariant_of-self c =
     let id = request_id c.args.dir (fields c.args.tlp.now) in
     let opened = opened_by (fields c.args.tlp.now) c.args.at in
-    let put = put-request c.self.inside.table c.put.new.self c.args.self.now c.put.result c.key.result id c.request_of.result (fields c.args.tlp.now) c.args.at c.self.view_is
+    let put = put-request c.self.inside.table c.put.new.self c.self.inside.torn c.args.self.now c.put.result c.key.result id c.request_of.result (fields c.args.tlp.now) c.args.at c.self.view_is
     (c.key.ensures ∙ ap key_of c.of_request-id.ensures.id) c.request_of.ensures c.requires.room c.put.ensures.refused.0 c.put.ensures.put in (
       c.put.ensures.room ∙ c.self.invariant.0,
       open-step (entries c.self.inside.table) (entries c.put.new.self) (key_of id) (Some opened) (step-put _ _ _ _ put)
@@ -21,8 +21,9 @@ pub returns-clause-stands : goal.returns-clause-stands
 returns-clause-stands c = λ past stands.
     let id = request_id c.args.dir (fields c.args.tlp.now) in
     let opened = opened_by (fields c.args.tlp.now) c.args.at in
-    let put = put-request c.self.inside.table c.put.new.self c.args.self.now c.put.result c.key.result id c.request_of.result (fields c.args.tlp.now) c.args.at c.self.view_is
+    let put = put-request c.self.inside.table c.put.new.self c.self.inside.torn c.args.self.now c.put.result c.key.result id c.request_of.result (fields c.args.tlp.now) c.args.at c.self.view_is
     (c.key.ensures ∙ ap key_of c.of_request-id.ensures.id) c.request_of.ensures c.requires.room c.put.ensures.refused.0 c.put.ensures.put in
-    stands-request (record { table = c.self.inside.table }) (record { table = c.put.new.self }) c.args.dir (fields c.args.tlp.now) c.args.at past
-    (subst IsInRange c.of_request-id.ensures.id c.of_request-id.ensures.range) put
+    stands-request (record { table = c.self.inside.table; torn = c.self.inside.torn })
+    (record { table = c.put.new.self; torn = c.self.inside.torn }) c.args.dir (fields c.args.tlp.now) c.args.at past
+    (subst IsInRange c.of_request-id.ensures.id c.of_request-id.ensures.range) put refl
     (subst (λ (pairs : Kept). StandsFor pairs past) (sym c.self.view_is) stands)
