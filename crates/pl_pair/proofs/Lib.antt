@@ -3,3 +3,4 @@ pub mod Histories
 pub mod Counts
 pub mod Steps
 pub mod Terms
+pub mod Fresh

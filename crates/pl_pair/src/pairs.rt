@@ -143,6 +143,9 @@ impl Pairs {
     /// breaks C2. It takes the place of an open request with its transaction ID. From then on the
     /// pairs stand for the history with it.
     ///
+    /// Behind a gap a caller tells of a request only where it is sure: an Ack or Nak has confirmed
+    /// the run of its sequence number, which doesn't begin with it. Another takes no place.
+    ///
     /// There is room: see `full_for`.
     pub fn request(&mut self, dir: Dir, tlp: &Tlp, at: u64) -> Found
         requires needs { kinds.needs_completion tlp.now.kind ≡ true }
