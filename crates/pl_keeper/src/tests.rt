@@ -212,7 +212,8 @@ fn one_keeper_after_the_other(rt: HostRuntime) -> Result<(), Fail> {
     );
     let mut db = first.into_connection();
     db.execute(
-        "INSERT INTO captures (rowid, bench, label, profile, body) VALUES (-5, 'b', 'a', 'p', x'00')",
+        "INSERT INTO captures (rowid, bench, label, profile, body) \
+         VALUES (-5, 'b', 'a', 'p', x'00')",
         &[],
     )?;
     let mut second = SqliteKeeper::new(db);
