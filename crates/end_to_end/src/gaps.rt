@@ -1,5 +1,6 @@
 //! Captures with gaps, and captures that begin in traffic.
 use crate::desk::{Case, check, judge};
+use crate::views::{expect, noted, run};
 use pl_notation::Notation;
 use std::test::Fail;
 
@@ -129,6 +130,49 @@ fn a_gap_forgets_what_came_before_it(rt: HostRuntime) -> Result<(), Fail> {
                 "item 3 rule F1 first - second -; end items 3 verdicts 1",
             ),
         ],
+    )
+}
+
+#[test]
+fn credits_wait_for_an_initfc1_behind_a_gap(rt: HostRuntime) -> Result<(), Fail> {
+    judge(
+        rt.alloc(),
+        &[
+            // what a TLP took before is used
+            Case::new(
+                "1 gap; 2 Up MWr n=5; 3 Down InitFC1-P 1/0; 4 Up MWr n=6",
+                1,
+                "item 4 rule F9 first 3 second -; end items 4 verdicts 1",
+            ),
+            // an InitFC2 is no initial, and isn't held against the profile
+            Case::new(
+                "1 gap; 2 Down InitFC2-P 1/8; 3 Down InitFC1-P 1/8",
+                1,
+                "item 3 rule F4 first - second -; end items 3 verdicts 1",
+            ),
+        ],
+    )
+}
+
+#[test]
+fn what_was_missed_is_counted_as_it_comes(rt: HostRuntime) -> Result<(), Fail> {
+    let rows = "1 gap; 2 Up MWr n=5; 3 Down Ack 5; 4 Down Ack 9; 5 Up MWr n=6";
+    let capture = noted(rt.alloc(), rows)?;
+    expect(
+        &run(rt.alloc(), &["report", "-", "capture"], &capture)?,
+        0,
+        "items 5; tlp down 0 up 2; dllp down 2 up 0; link down 0; taken down 0 up 1; \
+         repeat down 0 up 1; stray down 0 up 0; spoiled down 0 up 0; nullified down 0 up 0; \
+         most outstanding 0; most unacknowledged down 0 up 1; end items 5 verdicts 0",
+    )?;
+    expect(
+        &run(
+            rt.alloc(),
+            &["list", "-", "capture", "(not (or up down))"],
+            &capture,
+        )?,
+        0,
+        "item 1 gap 1; end items 5 shown 1 verdicts 0",
     )
 }
 

@@ -11,7 +11,7 @@ use std::alloc::{AllocError, Global};
 use std::test::Fail;
 
 /// Checks that the outcome of some words is this status and these lines, which are parted by `;`.
-fn expect(outcome: &Outcome, status: u8, lines: &str) -> Result<(), Fail> {
+pub fn expect(outcome: &Outcome, status: u8, lines: &str) -> Result<(), Fail> {
     if outcome.status == status && outcome.has_lines(lines) {
         return Ok(());
     }
@@ -21,12 +21,12 @@ fn expect(outcome: &Outcome, status: u8, lines: &str) -> Result<(), Fail> {
 }
 
 /// Runs the program on these words, over a capture of the name `capture`.
-fn run(alloc: Global, words: &[&str], capture: &[u8]) -> Result<Outcome, AllocError> {
+pub fn run(alloc: Global, words: &[&str], capture: &[u8]) -> Result<Outcome, AllocError> {
     run_words(alloc, words, capture, Calls::whole(), Calls::whole())
 }
 
 /// The capture of these rows.
-fn noted(alloc: Global, rows: &str) -> Result<Vec<u8>, Fail> {
+pub fn noted(alloc: Global, rows: &str) -> Result<Vec<u8>, Fail> {
     let mut notation = Notation::new(alloc, 0)?;
     notation.rows(rows)?;
     let capture = notation.end()?;
