@@ -3,7 +3,8 @@ ghost use Rattle.std.specs.Prelude.{◌<◌};
 
 use pl_base::Dir;
 use pl_cli::run;
-use pl_io::{MemShelf, MemSink};
+use pl_io::{MemDoor, MemShelf, MemSink};
+use pl_keeper::MapKeeper;
 use pl_notation::Notation;
 use std::alloc::{AllocError, Global};
 use std::test::Fail;
@@ -79,6 +80,18 @@ pub fn judge(alloc: Global, cases: &[Case<'_>]) -> Result<(), Fail> {
     Ok(())
 }
 
+/// What the program answers on these words, over an archive without rows and a door without links.
+pub fn answer(
+    alloc: Global,
+    words: &[&str],
+    shelf: &mut MemShelf,
+    out: &mut MemSink,
+) -> Result<u8, AllocError> {
+    let mut door = MemDoor::new(alloc, Vec::new(alloc), &[])?;
+    let mut keeper = MapKeeper::new(alloc, &[])?;
+    Ok(run(alloc, words, shelf, out, &mut door, &mut keeper))
+}
+
 /// Checks a capture under `-`, the usual profile, or else under a profile of this text.
 fn check_under(alloc: Global, profile: &str, capture: &[u8]) -> Result<Outcome, AllocError> {
     let mut shelf = MemShelf::new(alloc, 4096, &[])?;
@@ -86,7 +99,7 @@ fn check_under(alloc: Global, profile: &str, capture: &[u8]) -> Result<Outcome, 
     shelf.add("profile", profile.as_bytes())?;
     let mut out = MemSink::new(alloc, 4096, 4096, &[])?;
     let name = if profile == "-" { "-" } else { "profile" };
-    let status = run(alloc, &["check", name, "capture"], &mut shelf, &mut out);
+    let status = answer(alloc, &["check", name, "capture"], &mut shelf, &mut out)?;
     let output = Vec::from_slice(alloc, out.written())?;
     Ok(Outcome { status, output })
 }
@@ -135,7 +148,7 @@ pub fn run_words(
     let mut shelf = MemShelf::new(alloc, reads.most, reads.failing)?;
     shelf.add("capture", capture)?;
     let mut out = MemSink::new(alloc, 65_536, writes.most, writes.failing)?;
-    let status = run(alloc, words, &mut shelf, &mut out);
+    let status = answer(alloc, words, &mut shelf, &mut out)?;
     let output = Vec::from_slice(alloc, out.written())?;
     Ok(Outcome { status, output })
 }

@@ -1,6 +1,5 @@
 //! The profile of a command.
-use crate::desk::{DAMAGED_ACK_LINES, Outcome, damaged_ack};
-use pl_cli::run;
+use crate::desk::{DAMAGED_ACK_LINES, Outcome, answer, damaged_ack};
 use pl_io::{MemShelf, MemSink};
 use std::alloc::{AllocError, Global};
 use std::test::Fail;
@@ -12,7 +11,7 @@ fn check_under(alloc: Global, name: &str, profile: &[u8]) -> Result<Outcome, All
     shelf.add("capture", &capture)?;
     shelf.add("profile", profile)?;
     let mut out = MemSink::new(alloc, 256, 4096, &[])?;
-    let status = run(alloc, &["check", name, "capture"], &mut shelf, &mut out);
+    let status = answer(alloc, &["check", name, "capture"], &mut shelf, &mut out)?;
     let output = Vec::from_slice(alloc, out.written())?;
     Ok(Outcome { status, output })
 }

@@ -21,7 +21,7 @@ use Rattle.pl_filter.specs.declared.error.FilterError.{FilterError}
 use Rattle.pl_filter.specs.declared.error.FilterError.TheVariants as error
 use Rattle.pl_engine.specs.Judged.{judged_verdicts}
 use Rattle.pl_cli.specs.Output.{Cause, AtEnd, AtRefusal, AtLimit, AtFault, Listing, How, Whole, TooLong, Fault, cause, cause_of, cause_of_ending, cause_status, how_of, limit, status, status_of, stop_status}
-use Rattle.pl_cli.specs.Promise.{Begins, IsList, IsNoCommand, IsTrial, Lists, Runs, filter_refused, lacking, listed, no_filter, refused, shows, texts}
+use Rattle.pl_cli.specs.Promise.{Begins, IsList, IsNoJudging, IsTrial, Lists, Runs, filter_refused, lacking, listed, no_filter, refused, shows, texts}
 use Rattle.pl_cli.specs.Source.{RefusesFilter}
 use Rattle.pl_cli.specs.Words.{IsUnrisen, RunsCleanly}
 use Rattle.pl_engine.proofs.Lists.{accepted_all}
@@ -131,7 +131,7 @@ four_words (a ∷ b ∷ c ∷ e ∷ x ∷ more) d name h = absurd (omega (arith,
 
 -- words that begin with no command
 pub no_words : (words : List (List ℕ)) → (Begins words (codes "check") 3 → ⊥) → (Begins words (codes "list") 4 → ⊥) → (Begins words (codes "report") 3 → ⊥) →
-    ((number count : ℕ) → IsTrial words number count → ⊥) → IsNoCommand words
+    ((number count : ℕ) → IsTrial words number count → ⊥) → IsNoJudging words
 no_words words check list report trial = record {
   no_check = λ profile capture is. check (ap (λ (l : List (List ℕ)). length l) is, ap (λ (l : List (List ℕ)). slice_get l 0) is);
   no_list = λ filter is. list (ap (λ (l : List (List ℕ)). length l) is.2, ap (λ (l : List (List ℕ)). slice_get l 0) is.2);

@@ -17,7 +17,7 @@ use Rattle.pl_filter.specs.Trees.{Tree}
 use Rattle.pl_filter.specs.declared.error.FilterError.{FilterError}
 use Rattle.pl_filter.proofs.Unique.{answer_is_read}
 use Rattle.pl_cli.specs.Output.{Check, Listing, Report, View, cut, output, status_of}
-use Rattle.pl_cli.specs.Promise.{Answers, HasFilter, IsCheck, IsCommand, IsList, IsNoCommand, IsReport, Judges, Opens, ProfileIs, ProfileUnread, Reads, ReadsProfile, Runs, Shows, filter_refused, is_dash, judged, no_command, no_filter, no_memory, profile_read, profile_refused, profile_unread, shows, tries, unread}
+use Rattle.pl_cli.specs.Promise.{Answers, HasFilter, IsCheck, IsCommand, IsList, IsNoJudging, IsReport, Judges, Opens, ProfileIs, ProfileUnread, Reads, ReadsProfile, Runs, Shows, filter_refused, is_dash, judged, no_command, no_filter, no_memory, profile_read, profile_refused, profile_unread, shows, tries, unread}
 use Rattle.pl_cli.specs.Source.{profile_under}
 use Rattle.pl_cli.specs.Words.{AreThere, CutAt, FilterIsRead, Gives, GivesPart, IsJudged, IsUnrisen, OpensBoth, RunsCleanly, after_profile, nothing_read, whole_text}
 use Rattle.pl_cli.proofs.CommandWords.{clean_file, not_risen}
@@ -135,7 +135,7 @@ same_words h k = (cc, cc)
 same_four : {word a b c a' b' c' : List ℕ} {words : List (List ℕ)} → words ≡ word ∷ a ∷ b ∷ c ∷ [] → words ≡ word ∷ a' ∷ b' ∷ c' ∷ [] → (a' ≡ a) × (b' ≡ b) × (c' ≡ c)
 same_four h k = (cc, cc, cc)
 
-pub none_by : {words : List (List ℕ)} (v : View) (profile capture : List ℕ) → IsCommand words v profile capture → IsNoCommand words → ⊥
+pub none_by : {words : List (List ℕ)} (v : View) (profile capture : List ℕ) → IsCommand words v profile capture → IsNoJudging words → ⊥
 none_by Check profile capture h none = none.no_check profile capture h
 none_by (Listing f) profile capture h none = none.no_list h.0 (profile, capture, h.1)
 none_by Report profile capture h none = none.no_report profile capture h

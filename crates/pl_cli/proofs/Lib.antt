@@ -16,5 +16,6 @@ pub mod Judged
 pub mod CommandWords
 pub mod Shown
 pub mod Trials
+pub mod ServeWords
 pub mod Headline
 pub mod Statuses

@@ -13,7 +13,7 @@ use Rattle.pl_filter.specs.declared.error.FilterError.{FilterError}
 use Rattle.pl_make.specs.Generated.{Gen}
 use Rattle.pl_report.specs.Lines.{filter_error_text, profile_error_text, read_fault_text, usage_text}
 use Rattle.pl_cli.specs.Output.{View, cut, output, status_of}
-use Rattle.pl_cli.specs.Promise.{Answers, IsCommand, IsNoCommand, Opens, ProfileIs, Runs, filter_refused, is_dash, judged, no_command, no_engine, no_filter, no_memory, profile_read, profile_refused, profile_unread, reported, shows, trial_status, trial_text, tries, unread}
+use Rattle.pl_cli.specs.Promise.{Answers, IsCommand, IsNoJudging, Opens, ProfileIs, Runs, filter_refused, is_dash, judged, no_command, no_engine, no_filter, no_memory, profile_read, profile_refused, profile_unread, reported, shows, trial_status, trial_text, tries, unread}
 use Rattle.pl_cli.specs.Words.{Gives, GivesPart, IsGenerated, IsJudged, IsRefused, LacksEngine, LacksFilter, LacksProfile, OpensBoth}
 use Rattle.pl_cli.proofs.Judged.{judged_status}
 use Rattle.pl_cli.proofs.Trials.{filter_trial, trial_never}
@@ -92,21 +92,21 @@ judged_not_8 k (inl h) is8 = omega arith
 judged_not_8 k (inr h) is8 = omega (arith, h.1)
 
 module _ {H O : Type 0} {S : shelf.Ghosts H} {T : sink.Ghosts O} {words : List (List ℕ)} {old new : H} {out out' : O} {answer : ℕ} where
-  pub usage_by : Runs S T words old new out out' answer → IsNoCommand words → Answers T usage_text 2 out out' answer
+  pub usage_by : Runs S T words old new out out' answer → IsNoJudging words → Answers T usage_text 2 out out' answer
   usage_by (no_command none same a) h = a
   usage_by (filter_refused filter e has bad same a) h = absurd (h.no_list filter has)
   usage_by (no_filter filter has same none is9) h = absurd (h.no_list filter has)
   usage_by (shows v profile capture is r) h = absurd (none_by v profile capture is h)
   usage_by (tries n c is same t) h = absurd (h.no_trial n c is)
 
-  pub none_opened_by : Runs S T words old new out out' answer → IsNoCommand words → new ≡ old
+  pub none_opened_by : Runs S T words old new out out' answer → IsNoJudging words → new ≡ old
   none_opened_by (no_command none same a) h = same
   none_opened_by (filter_refused filter e has bad same a) h = same
   none_opened_by (no_filter filter has same none is9) h = same
   none_opened_by (shows v profile capture is r) h = absurd (none_by v profile capture is h)
   none_opened_by (tries n c is same t) h = same
 
-  pub usage_room_by : Runs S T words old new out out' answer → IsNoCommand words → HasRoom (T.room out) (length usage_text) → T.faults out' ≡ T.faults out
+  pub usage_room_by : Runs S T words old new out out' answer → IsNoJudging words → HasRoom (T.room out) (length usage_text) → T.faults out' ≡ T.faults out
   usage_room_by r h room = kept_if_room (usage_by r h) room
 
   pub write_fault_by : Runs S T words old new out out' answer → answer ≡ 8 → Rose (T.faults out) (T.faults out')
@@ -121,7 +121,7 @@ module _ {H O : Type 0} {S : shelf.Ghosts H} {T : sink.Ghosts O} {words : List (
   pub no_memory_by : Runs S T words old new out out' answer → answer ≡ 9 → out' ≡ out
   no_memory_by r = no_memory_of (answered r)
 
-  pub usage_only_by : Runs S T words old new out out' answer → answer ≡ 2 → IsNoCommand words
+  pub usage_only_by : Runs S T words old new out out' answer → answer ≡ 2 → IsNoJudging words
   usage_only_by (no_command none same a) is2 = none
   usage_only_by (filter_refused filter e has bad same a) is2 = let k = a.answered (λ h. omega arith) in absurd (omega (arith, k))
   usage_only_by (no_filter filter has same none is9) is2 = absurd (omega arith)

@@ -75,7 +75,7 @@ module _ {O : Type 0} {T : sink.Ghosts O} {number count : ℕ} {out out' : O} {a
 -- ---- its words
 
 -- the commands are told apart by the first letters of their names
-letters_apart : {words first second : List (List ℕ)} → words ≡ first → words ≡ second → get_or (get_or first 0 []) 0 0 ≡ get_or (get_or second 0 []) 0 0
+pub letters_apart : {words first second : List (List ℕ)} → words ≡ first → words ≡ second → get_or (get_or first 0 []) 0 0 ≡ get_or (get_or second 0 []) 0 0
 letters_apart h k = ap (λ (l : List (List ℕ)). get_or (get_or l 0 []) 0 0) (sym h ∙ k)
 
 pub command_trial : {words : List (List ℕ)} {number count : ℕ} (v : View) (profile capture : List ℕ) → IsCommand words v profile capture → IsTrial words number count → ⊥

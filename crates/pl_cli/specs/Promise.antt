@@ -68,7 +68,7 @@ abbrev pub Begins : List (List ℕ) → List ℕ → ℕ → Type 0
 Begins words name count = (length words ≡ count) × (slice_get words 0 ≡ Some name)
 
 -- none of the commands
-pub record IsNoCommand (words : List (List ℕ)) : Type 0 where
+pub record IsNoJudging (words : List (List ℕ)) : Type 0 where
   pub no_check : (profile capture : List ℕ) → IsCheck words profile capture → ⊥
   pub no_list : (filter : List ℕ) → HasFilter words filter → ⊥
   pub no_report : (profile capture : List ℕ) → IsReport words profile capture → ⊥
@@ -234,7 +234,7 @@ pub data Trials {O : Type 0} (T : sink.Ghosts O) (number count : ℕ) (out out' 
 -- Whatever the words are.
 pub data Runs {H O : Type 0} (S : shelf.Ghosts H) (T : sink.Ghosts O) (words : List (List ℕ))
     (old new : H) (out out' : O) (answer : ℕ) : Type 0 where
-  no_command : IsNoCommand words → new ≡ old
+  no_command : IsNoJudging words → new ≡ old
       → Answers T usage_text USAGE out out' answer
       → Runs S T words old new out out' answer
   filter_refused : (filter : List ℕ) (e : FilterError) → HasFilter words filter

@@ -1,7 +1,9 @@
 //! The top call: from the words of the command line to the exit status.
-ghost use Rattle.std.specs.Prelude.{◌≡◌, ◌≢◌, ◌⊎◌, ◌↔◌, ◌<◌, ◌≤◌, List, ℕ, IsTrue, true, None};
+ghost use Rattle.std.specs.Prelude.{◌≡◌, ◌≢◌, ◌⊎◌, ◌↔◌, ◌<◌, ◌≤◌, ◌+◌, ◌*◌, List, ℕ, IsTrue, true};
+ghost use Rattle.std.specs.Prelude.{None, false};
 ghost use Rattle.std.specs.Prelude.{Some, Ok, Err, length};
 ghost use Rattle.pl_io.specs.Faults.{Rose};
+ghost use Rattle.pl_io.specs.Links.{Coming};
 ghost use Rattle.pl_io.specs.Told.{HasRoom};
 ghost use Rattle.pl_profile.specs.Refusal.{number_of};
 ghost use Rattle.pl_profile.specs.declared.error.ProfileError as declared;
@@ -13,9 +15,11 @@ ghost use Rattle.pl_report.specs.Lines.{usage_text};
 ghost use Rattle.pl_make.specs.Generated.{Gen};
 ghost use Rattle.pl_cli.specs.Numbers.{IsTrialOf};
 ghost use Rattle.pl_cli.specs.Output.{View, output, status_of};
-ghost use Rattle.pl_cli.specs.Promise.{Answers, Begins, IsCommand, IsNoCommand, IsTrial, Opens};
+ghost use Rattle.pl_cli.specs.Promise.{Answers, Begins, IsCommand, IsTrial, Opens};
 ghost use Rattle.pl_cli.specs.Promise.{ProfileUnread, Runs, Trials, texts};
 ghost use Rattle.pl_cli.specs.Promise.{trial_status, trial_text};
+ghost use Rattle.pl_cli.specs.ServeWords.{IsNoCommand, IsServe, IsServeOf, IsServing, LacksRoutes};
+ghost use Rattle.pl_cli.specs.Serving.{Risen, Session};
 ghost use Rattle.pl_cli.specs.Source.{profile_under};
 ghost use Rattle.pl_cli.specs.Words.{AreThere, Asks, FilterIsRead, Gives, GivesCut, GivesFault};
 ghost use Rattle.pl_cli.specs.Words.{GivesPart, GivesPartOfCut, GivesPartOfFault, IsJudged};
@@ -27,8 +31,11 @@ use crate::closing::write_last;
 use crate::commands::{check, list, report};
 use crate::generated::trial;
 use crate::numbers::{count, number};
-use crate::status::{CLEAN, FILTER, NO_MEMORY, PROFILE, READ_FAULT, USAGE, WRITE_FAULT};
-use pl_io::{Shelf, Sink};
+use crate::serving::serve;
+use crate::status::{CLEAN, DOOR_FAULT, FILTER, NO_MEMORY, PROFILE, READ_FAULT, STORE_FAULT};
+use crate::status::{USAGE, WRITE_FAULT};
+use pl_io::{Door, Shelf, Sink};
+use pl_keeper::Keeper;
 use pl_report::usage_line;
 use std::alloc::Global;
 
@@ -40,10 +47,24 @@ use std::alloc::Global;
 /// written is exactly what the command's view shows of the verdicts that the rules give over the
 /// whole list of items, and then the closing line or that of the refusal. `trial NUMBER COUNT` is
 /// the report of a generated capture under the usual profile, for which no file is opened.
-pub fn run<H: Shelf, O: Sink>(alloc: Global, words: &[&str], shelf: &mut H, out: &mut O) -> u8
-    // All that is promised, whatever the words are and whatever it comes to. The other clauses say
-    // what that is in words of the profile and the capture.
-    ensures runs { Runs H.Shelf O.Sink (texts words.now)
+///
+/// `serve ADDRESS STORE TURNS` serves the archive of the keeper to TURNS links of the door, one
+/// after another, with a line for each. ADDRESS and STORE are what the caller made the door and the
+/// keeper of, and aren't read here. The other commands use neither.
+pub fn run<H: Shelf, O: Sink, D: Door, K: Keeper>(
+    alloc: Global,
+    words: &[&str],
+    shelf: &mut H,
+    out: &mut O,
+    door: &mut D,
+    keeper: &mut K,
+) -> u8
+    requires { D.is_out door.old ≡ false }
+
+    // All that is promised of the commands that judge a capture, whatever the words are and
+    // whatever it comes to. The other clauses say what that is in words of the profile and the
+    // capture.
+    ensures runs { (IsServing (texts words.now) → ⊥) → Runs H.Shelf O.Sink (texts words.now)
         shelf.old shelf.new out.old out.new result }
 
     // 1. Where nothing failed, the lines are the output for the whole file, and so is the status. A
@@ -121,7 +142,8 @@ pub fn run<H: Shelf, O: Sink>(alloc: Global, words: &[&str], shelf: &mut H, out:
     // 4. Want of memory comes before the capture is opened and writes nothing.
     ensures unopened { result ≡ NO_MEMORY → LacksFilter (texts words.now) shelf.old shelf.new
         ⊎ (LacksProfile H.Shelf (texts words.now) shelf.old shelf.new
-        ⊎ LacksEngine (texts words.now) shelf.old shelf.new) }
+        ⊎ (LacksEngine (texts words.now) shelf.old shelf.new
+        ⊎ LacksRoutes (texts words.now) shelf.old shelf.new)) }
     ensures no_memory { result ≡ NO_MEMORY → out.new ≡ out.old }
 
     // 5. Each file is asked for at most once, the profile's first: none for words that are no
@@ -134,13 +156,14 @@ pub fn run<H: Shelf, O: Sink>(alloc: Global, words: &[&str], shelf: &mut H, out:
         × IsCommand (texts words.now) view profile capture
         × Opens H.Shelf profile shelf.old shelf.new × (H.is_open shelf.new ≡ true) }
     ensures trial_alone { IsGenerated (texts words.now) → shelf.new ≡ shelf.old }
-    ensures both_opened { IsJudged result → IsGenerated (texts words.now)
+    ensures both_opened { IsJudged result → (IsGenerated (texts words.now)
+        ⊎ IsServing (texts words.now))
         ⊎ ((view : View) × (profile : List ℕ) × (capture : List ℕ)
         × IsCommand (texts words.now) view profile capture
         × OpensBoth H.Shelf profile capture shelf.old shelf.new × (H.is_open shelf.new ≡ true)) }
 
     // 6. Each status has its cause, whatever the shelf and the sink tell.
-    ensures status { (result ≤ NO_MEMORY) ⊎ (result ≡ FILTER) }
+    ensures status { result ≤ FILTER }
     ensures usage_only { result ≡ USAGE → IsNoCommand (texts words.now) }
     ensures filter_only { result ≡ FILTER → (e : filtering.FilterError)
         × IsRefused (texts words.now) e }
@@ -174,11 +197,50 @@ pub fn run<H: Shelf, O: Sink>(alloc: Global, words: &[&str], shelf: &mut H, out:
         O.faults out.new ≡ O.faults out.old }
     ensures usage_room { IsNoCommand (texts words.now) →
         HasRoom (O.room out.old) (length usage_text) → O.faults out.new ≡ O.faults out.old }
+
+    // 9. The archive. Where the door tells its links, each is served in its turn, and has its line
+    // and its reply; where the keeper lives, over the rows that those before it left. Nothing is
+    // opened for it, and no other command uses the door or the keeper.
+    ensures session { (turns : ℕ) → IsServe (texts words.now) turns → (links : List Coming) →
+        D.links door.old ≡ Some links → result ≢ WRITE_FAULT → result ≢ NO_MEMORY →
+        Session links turns (K.lives keeper.new) (K.tells keeper.old)
+        (K.tells keeper.new) (K.faults keeper.old) (K.faults keeper.new) (D.replies door.old)
+        (D.replies door.new) (O.written out.old) (O.written out.new)
+        (D.faults door.old) (D.faults door.new) result }
+    ensures lived { K.lives keeper.new → K.lives keeper.old }
+    ensures serve_alone { IsServing (texts words.now) → shelf.new ≡ shelf.old }
+    ensures idle { (IsServing (texts words.now) → ⊥) →
+        (door.new ≡ door.old) × (keeper.new ≡ keeper.old) }
+    ensures in_again { D.is_out door.new ≡ false }
+    ensures no_routes { IsServing (texts words.now) → result ≡ NO_MEMORY →
+        (door.new ≡ door.old) × (keeper.new ≡ keeper.old) }
+    ensures door_fault { result ≡ DOOR_FAULT → Rose (D.faults door.old) (D.faults door.new) }
+    ensures store_fault { result ≡ STORE_FAULT →
+        Risen (K.faults keeper.old) (K.faults keeper.new) }
+    ensures serve_clean { IsServing (texts words.now) → result ≡ CLEAN →
+        (D.faults door.new ≡ D.faults door.old) × (K.faults keeper.new ≡ K.faults keeper.old) }
+    ensures serve_room { (turns : ℕ) → IsServe (texts words.now) turns →
+        HasRoom (O.room out.old) (11 * turns + 12) → result ≢ WRITE_FAULT }
+    ensures serve_sure { K.sure keeper.old ≡ true → result ≢ STORE_FAULT }
 {
-    run_words(alloc, words, shelf, out)
+    match turns_of_serve(words) {
+        Some(turns) => serve(alloc, turns, out, door, keeper),
+        None => run_words(alloc, words, shelf, out),
+    }
 }
 
-/// Does what the words say.
+/// The turns of the words `serve ADDRESS STORE TURNS`. None for other words.
+fn turns_of_serve(words: &[&str]) -> Option<u32>
+    ensures { IsServeOf (texts words.now) result }
+{
+    if begin(words, "serve", 4) {
+        count(words[3])
+    } else {
+        None
+    }
+}
+
+/// Does what the words say where they judge a capture, and else writes the usage line.
 fn run_words<H: Shelf, O: Sink>(alloc: Global, words: &[&str], shelf: &mut H, out: &mut O) -> u8
     ensures runs { Runs H.Shelf O.Sink (texts words.now)
         shelf.old shelf.new out.old out.new result }
