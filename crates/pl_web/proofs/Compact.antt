@@ -3,7 +3,12 @@ use Rattle.std.proofs.Common.{◌≡◌, ℕ, List, codes, append_assoc, refl}
 use Rattle.serde_json.specs.Data.{number, unsigned, string, object, member, no_members}
 use Rattle.serde_json.specs.Written.{compact_text}
 use Rattle.serde_json.proofs.OnLiterals.{serde_json_on_literals}
+use Rattle.pl_engine.specs.declared.judged.Judged.{Judged}
+use Rattle.pl_keeper.specs.Listing.{Line}
+use Rattle.pl_report.specs.Json.{verdicts_object}
 use Rattle.pl_web.specs.Bodies.{difference_body, error_body, limit_body, number_body, profile_body}
+use Rattle.pl_web.specs.Bodies.{item_body, item_limit_body, capture_body, verdicts_body}
+use Rattle.pl_web.specs.Bodies.{line_object}
 
 pub error_compact : (name : List ℕ)
     → compact_text (object (member (codes "error") (string name) no_members)) ≡ error_body name
@@ -39,3 +44,43 @@ pub profile_compact : (bench profile : List ℕ)
     ≡ profile_body bench profile
 unfolding serde_json_on_literals profile_body
 profile_compact bench profile = simp append_assoc
+
+pub item_compact : (name : List ℕ) (item at : ℕ)
+    → compact_text (object (member (codes "error") (string name)
+    (member (codes "item") (number (unsigned item))
+    (member (codes "number") (number (unsigned at)) no_members))))
+    ≡ item_body name item at
+unfolding serde_json_on_literals item_body
+item_compact name item at = simp append_assoc
+
+pub item_limit_compact : (name : List ℕ) (item limit : ℕ)
+    → compact_text (object (member (codes "error") (string name)
+    (member (codes "item") (number (unsigned item))
+    (member (codes "limit") (number (unsigned limit)) no_members))))
+    ≡ item_limit_body name item limit
+unfolding serde_json_on_literals item_limit_body
+item_limit_compact name item limit = simp append_assoc
+
+pub capture_compact : (bench key profile : List ℕ) (items verdicts : ℕ)
+    → compact_text (object (member (codes "bench") (string bench)
+    (member (codes "items") (number (unsigned items))
+    (member (codes "key") (string key)
+    (member (codes "profile") (string profile)
+    (member (codes "verdicts") (number (unsigned verdicts)) no_members))))))
+    ≡ capture_body bench key profile items verdicts
+unfolding serde_json_on_literals capture_body
+capture_compact bench key profile items verdicts = simp append_assoc
+
+pub line_compact : (line : Line)
+    → compact_text (object (member (codes "key") (string line.key)
+    (member (codes "length") (number (unsigned line.length))
+    (member (codes "profile") (string line.profile) no_members))))
+    ≡ line_object line
+unfolding serde_json_on_literals line_object
+line_compact line = simp append_assoc
+
+pub verdicts_same : (bench key : List ℕ) (judged : Judged)
+    → verdicts_object bench key judged
+    ≡ verdicts_body bench key judged.items judged.total judged.verdicts.items
+unfolding verdicts_object verdicts_body
+verdicts_same bench key judged = refl

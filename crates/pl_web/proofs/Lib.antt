@@ -1,6 +1,11 @@
 mod Compact
 mod Cuts
 mod Found
+mod Kept
 mod Levels
 mod Parts
+mod Received
+mod Replies
+mod Sent
 mod Steps
+mod Texts

@@ -1,5 +1,5 @@
 -- What a request with a whole head asks for, or why it is refused before anything is looked up.
-use Rattle.std.specs.Prelude.{ℕ, List, [], get_or, codes, Bool, ◌&&◌, nat_lt, bytes_eq}
+use Rattle.std.specs.Prelude.{ℕ, ◌≤◌, List, [], get_or, codes, Bool, ◌&&◌, nat_lt, bytes_eq}
 use Rattle.std.specs.Prelude.{if◌then◌else◌, Option, Some, None, Result, Ok, Err}
 use Rattle.pl_head.specs.Reply.{method_name}
 use Rattle.pl_head.specs.declared.form.Form.{Form}
@@ -96,3 +96,11 @@ asked_in (Ok (code.ListCaptures bench)) = list_captures bench.now
 asked_in (Ok (code.GetCapture bench key)) = get_capture bench.now key.now
 asked_in (Ok (code.GetVerdicts bench key)) = get_verdicts bench.now key.now
 asked_in (Err refusal) = refused refusal
+
+-- its body is no longer than one may be
+abbrev pub HasShortBody : Request → Type 0
+HasShortBody (code.PutProfile bench profile size) = size ≤ longest_body
+HasShortBody (code.PutCapture bench profile key size) = size ≤ longest_body
+HasShortBody (code.ListCaptures bench) = Unit {0}
+HasShortBody (code.GetCapture bench key) = Unit {0}
+HasShortBody (code.GetVerdicts bench key) = Unit {0}

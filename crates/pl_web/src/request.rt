@@ -1,10 +1,12 @@
 //! What a request asks for, by its method, its target and the form of its body.
-ghost use Rattle.std.specs.Prelude.{◌≡◌, get_or, [], true, false, bytes_eq, IfOk, IfErr, OnErr};
+ghost use Rattle.std.specs.Prelude.{◌≡◌, ◌≤◌, get_or, [], true, false, bytes_eq, IfOk, IfErr};
+ghost use Rattle.std.specs.Prelude.{OnErr};
 ghost use Rattle.pl_head.specs.Reply.{method_name};
 ghost use Rattle.pl_web.specs.Names.{is_name as is_name_text};
 ghost use Rattle.pl_web.specs.Paths.{kind_of, segments_of};
 ghost use Rattle.pl_web.specs.Requests.{asked_by, asked_in, asked_of_kind, asked_of_route};
-ghost use Rattle.pl_web.specs.Requests.{length_by, method_of};
+ghost use Rattle.pl_web.specs.Requests.{HasShortBody, length_by, method_of};
+ghost use Rattle.pl_web.specs.Refusals.{longest_body};
 
 use crate::names::{is_name, segment};
 use crate::refusal::{LONGEST_BODY, Refusal};
@@ -82,7 +84,8 @@ fn name_at(path: &str, place: usize) -> Result<&str, Refusal>
 
 /// The length of a body that is sent.
 fn body_length(form: Form) -> Result<u64, Refusal>
-    ensures { result ≡ length_by form }
+    ensures length { result ≡ length_by form }
+    ensures short { IfOk result (λ length. length ≤ longest_body) }
 {
     match form {
         Form::Refused => Err(Refusal::Framing),
@@ -99,7 +102,8 @@ fn body_length(form: Form) -> Result<u64, Refusal>
 
 /// What is asked for on a route.
 fn request_of_kind(kind: Kind, target: &str, form: Form) -> Result<Request<'_>, Refusal>
-    ensures { asked_in result ≡ asked_of_kind (segments_of target.now) form kind }
+    ensures asked { asked_in result ≡ asked_of_kind (segments_of target.now) form kind }
+    ensures short { IfOk result HasShortBody }
 {
     let bench = name_at(target, 2)?;
     match kind {
@@ -142,9 +146,10 @@ fn request_of_target<'t>(
     target: &'t str,
     form: Form,
 ) -> Result<Request<'t>, Refusal>
-    ensures { asked_in result
+    ensures asked { asked_in result
         ≡ asked_of_route (segments_of target.now) method.now form
         (kind_of (segments_of target.now)) }
+    ensures short { IfOk result HasShortBody }
 {
     let Some(kind) = routes.kind(target) else {
         return Err(Refusal::Route);
@@ -165,7 +170,8 @@ pub fn read_request<'t>(
     target: &'t str,
     form: Form,
 ) -> Result<Request<'t>, Refusal>
-    ensures { asked_in result ≡ asked_by method.now target.now form }
+    ensures asked { asked_in result ≡ asked_by method.now target.now form }
+    ensures short { IfOk result HasShortBody }
 {
     if form == Form::Refused {
         return Err(Refusal::Framing);

@@ -3,3 +3,4 @@
 mod bodies;
 mod paths;
 mod requests;
+mod serving;

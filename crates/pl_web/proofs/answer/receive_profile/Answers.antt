@@ -1,0 +1,28 @@
+use Rattle.std.proofs.Common.{◌≡◌, sym, subst}
+use Rattle.pl_profile.specs.ProfileOf.{profile_of}
+use Rattle.pl_web.specs.Answers.{Answers}
+use Rattle.pl_web.specs.Puts.{profile_sent}
+use Rattle.pl_web.proofs.Received.{body_whole, body_ended}
+use Rattle.pl_web.proofs.answer.receive_profile.Goals as goal
+
+pub returns-clause-answers : goal.returns-clause-answers
+returns-clause-answers g c = λ lives a tells rest incoming.
+    subst (λ o. Answers o a (g.K.Keeper.tells c.store_profile.new.keeper) c.store_profile.result)
+    (sym (body_whole a (λ bytes. profile_sent a (record {
+      bench = c.args.bench.now;
+      name = c.args.name.now;
+      bytes = bytes;
+    }) (profile_of bytes)) c.args.have.now rest c.args.size
+    (g.C.Conn.incoming c.args.conn.now) (g.C.Conn.incoming c.read_body.new.conn)
+    c.in_ok-bytes.bytes incoming c.in_ok-bytes.ensures.reads))
+    (rw c.deref.ensures.value at c.store_profile.ensures.answers lives a tells)
+
+pub returns-in_err-bytes-clause-answers : goal.returns-in_err-bytes-clause-answers
+returns-in_err-bytes-clause-answers g c = λ lives a tells rest incoming.
+    body_ended a (λ bytes. profile_sent a (record {
+      bench = c.args.bench.now;
+      name = c.args.name.now;
+      bytes = bytes;
+    }) (profile_of bytes)) c.args.have.now rest c.args.size
+    (g.C.Conn.incoming c.args.conn.now) (g.C.Conn.incoming c.read_body.new.conn)
+    _ (g.K.Keeper.tells c.args.keeper.now) incoming c.in_err-bytes.ensures.reads tells
