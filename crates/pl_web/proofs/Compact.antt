@@ -1,5 +1,6 @@
 -- The compact text of each body.
 use Rattle.std.proofs.Common.{◌≡◌, ℕ, List, codes, append_assoc, refl}
+use Rattle.json.specs.Print.{quoted}
 use Rattle.serde_json.specs.Data.{number, unsigned, string, object, member, no_members}
 use Rattle.serde_json.specs.Written.{compact_text}
 use Rattle.serde_json.proofs.OnLiterals.{serde_json_on_literals}
@@ -9,6 +10,11 @@ use Rattle.pl_report.specs.Json.{verdicts_object}
 use Rattle.pl_web.specs.Bodies.{difference_body, error_body, limit_body, number_body, profile_body}
 use Rattle.pl_web.specs.Bodies.{item_body, item_limit_body, capture_body, verdicts_body}
 use Rattle.pl_web.specs.Bodies.{line_object}
+
+-- a text alone
+pub string_compact : (word : List ℕ) → compact_text (string word) ≡ quoted word
+unfolding serde_json_on_literals
+string_compact word = refl
 
 pub error_compact : (name : List ℕ)
     → compact_text (object (member (codes "error") (string name) no_members)) ≡ error_body name

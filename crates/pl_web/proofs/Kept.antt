@@ -1,6 +1,6 @@
 -- What the keeper answered, and the reply that was made of it.
 use Rattle.std.proofs.Common.{◌≡◌, ◌≢◌, ℕ, List, false, true, refl, sym, subst}
-use Rattle.std.specs.Prelude.{Some, Result, Ok, Err, IfOk, IsOk, Vec, length, take}
+use Rattle.std.specs.Prelude.{Option, Some, None, Result, Ok, Err, IfOk, IsOk, Vec, length, take}
 use Rattle.std.specs.declared.alloc.Global.{Global}
 use Rattle.pl_capture.specs.Reading.{reading}
 use Rattle.pl_engine.specs.Judged.{judged_items, judged_verdicts}
@@ -22,8 +22,9 @@ use Rattle.pl_web.specs.Ended.{OfKeeper, OnlyMemory}
 use Rattle.pl_web.specs.Bodies.{list_body, profile_body, capture_body, verdicts_body}
 use Rattle.pl_web.specs.Gets.{captures_listed, verdicts_found, verdicts_under}
 use Rattle.pl_web.specs.Judged.{Judges, IsJudged}
-use Rattle.pl_web.specs.Judging.{Finding, judged, unjudged}
+use Rattle.pl_web.specs.Judging.{Finding, judged, unjudged, finding, no_profile}
 use Rattle.pl_web.specs.Puts.{put_answer, profile_stored, capture_stored, capture_found}
+use Rattle.pl_web.specs.declared.judging.Judging.{Judging}
 use Rattle.pl_web.specs.declared.judging.Judging.TheVariants as code
 use Rattle.pl_web.specs.declared.reply.Reply.{Reply}
 use Rattle.pl_web.specs.declared.ended.Ended.{Ended}
@@ -122,6 +123,18 @@ keeper_alone before now (Err Memory) of same = same
 pub ruleset of_keeper = (keeper_unlost, keeper_alone)
 
 -- ---- the reply to a capture that was judged, or wasn't
+
+-- there is no profile of the name
+pub judged_without : (text : Option (List ℕ)) (capture : List ℕ) (most : ℕ)
+    (result : Result Judging Ended) → text ≡ None
+    → IfOk result (λ judging. (capture : List ℕ) (most : ℕ)
+    → Judges (unjudged no_profile) capture most judging)
+    → IfOk result (λ judging. Judges (finding text capture) capture most judging)
+judged_without text capture most (Ok judging) none refuses =
+    subst (λ t. Judges (finding t capture) capture most judging) (sym none)
+    (refuses capture most)
+judged_without text capture most (Err ended) none refuses = refuses
+
 
 pub stored_judged : (a : Archive) (c : Capture) (f : Finding) (most : ℕ) (j : Judged)
     (Tells : Archive → Type 0) (result : Result Reply Ended)

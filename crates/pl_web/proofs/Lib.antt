@@ -1,11 +1,14 @@
+mod Benches
 mod Compact
 mod Cuts
 mod Found
+mod Growing
 mod Kept
 mod Levels
+mod Once
 mod Parts
 mod Received
-mod Replies
+mod Refused
 mod Sent
 mod Steps
 mod Texts

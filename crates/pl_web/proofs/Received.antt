@@ -45,20 +45,20 @@ pub body_whole : (a : Archive) (f : List ℕ → Outcome) (have rest : List ℕ)
     → old ≡ Some rest → BodyReads have size old new (Ok body)
     → with_body a (have ++ rest) size f ≡ f body.items
 body_whole a f have rest size old None body told reads =
-    absurd (untold (have ++ rest) (sym (ap (ahead have) told) ∙ reads.1.1))
+    absurd (untold (have ++ rest) (sym (ap (ahead have) told) ∙ reads.2))
 body_whole a f have rest size old (Some left) body told reads =
-    whole a f (have ++ rest) body.items (reads.1.0 ++ left) size reads.0
-    (some_is (sym (ap (ahead have) told) ∙ reads.1.1) ∙ append_assoc body.items reads.1.0 left)
+    whole a f (have ++ rest) body.items (reads.1 ++ left) size reads.0
+    (some_is (sym (ap (ahead have) told) ∙ reads.2) ∙ append_assoc body.items reads.1 left)
 
 pub body_part : (a : Archive) (f : List ℕ → Outcome) (have rest : List ℕ) (size : ℕ)
     (old new : Option (List ℕ))
     → old ≡ Some rest → BodyReads have size old new (Err Gone)
     → with_body a (have ++ rest) size f ≡ unanswered a
 body_part a f have rest size old None told reads =
-    absurd (untold (have ++ rest) (sym (ap (ahead have) told) ∙ reads.2.0))
+    absurd (untold (have ++ rest) (sym (ap (ahead have) told) ∙ reads.2))
 body_part a f have rest size old (Some left) told reads =
     part a f (have ++ rest) reads.0 size reads.1
-    (some_is (sym (ap (ahead have) told) ∙ reads.2.0) ∙ ap (λ l. reads.0 ++ l) reads.2.1
+    (some_is (sym (ap (ahead have) told) ∙ reads.2) ∙ ap (λ l. reads.0 ++ l) reads.3
     ∙ append-nil reads.0)
 
 -- without its body a request has no reply

@@ -1,9 +1,9 @@
--- What was sent was appended.
+-- What was sent was appended, and fits into the room that was told.
 use Rattle.std.proofs.Common.{◌≡◌, List, ℕ, [], Bool, true, false, append-nil, ap, sym, refl, ◌∙◌}
-use Rattle.std.proofs.Common.{subst}
-use Rattle.std.specs.Prelude.{Option, Some, None}
-use Rattle.pl_io.specs.Told.{plus}
-use Rattle.pl_web.specs.Served.{Grew, IsSent}
+use Rattle.std.proofs.Common.{subst, length}
+use Rattle.std.specs.Prelude.{Option, Some, None, IsSome}
+use Rattle.pl_io.specs.Told.{plus, HasRoom}
+use Rattle.pl_web.specs.Served.{Grew, IsSent, Sends}
 
 plus_nothing : (told : Option (List ℕ)) → told ≡ plus told []
 plus_nothing None = refl
@@ -19,5 +19,21 @@ grew_sent false old new text is = (is.part, is.written)
 
 pub grew_from : (old mid new : Option (List ℕ)) → mid ≡ old → Grew mid new → Grew old new
 grew_from old mid new same grew = subst (λ told. Grew told new) same grew
+
+-- the room that was told is still there
+pub room_left : (old mid : Option ℕ) (size : ℕ) → (IsSome old → mid ≡ old) → HasRoom old size
+    → HasRoom mid size
+room_left None mid size kept has = absurd has
+room_left (Some room) mid size kept has =
+    subst (λ told. HasRoom told size) (sym (kept refl)) has
+
+-- so what was sent then is what the call sends
+pub sends_from : (room_old room_mid : Option ℕ) (old mid new : Option (List ℕ)) (sent : Bool)
+    (text : List ℕ) → (IsSome room_old → room_mid ≡ room_old) → mid ≡ old
+    → Sends room_mid mid new sent text → Sends room_old old new sent text
+sends_from room_old room_mid old mid new sent text kept same sends = record {
+  bytes = subst (λ told. IsSent sent told new text) same sends.bytes;
+  fits = λ has. sends.fits (room_left room_old room_mid (length text) kept has);
+}
 
 pub ruleset grows = (grew_none, grew_sent, grew_from)

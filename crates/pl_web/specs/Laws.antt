@@ -45,9 +45,10 @@ is_upload (get_verdicts bench key) = false
 is_upload (refused refusal) = false
 
 -- it was stored, or was there
-pub data IsStored : Status → Type 0 where
-  created : IsStored Created
-  same : IsStored Success
+abbrev pub is_stored : Status → Bool
+is_stored Created = true
+is_stored Success = true
+is_stored other = false
 
 -- An upload that was answered 200 or 201 is answered 200 with the same body wherever its row is
 -- there, and changes nothing.

@@ -1,5 +1,5 @@
 -- What serving one request did.
-use Rattle.std.specs.Prelude.{◌≡◌, ℕ, List, Bool, true, false, Option, None, codes}
+use Rattle.std.specs.Prelude.{◌≡◌, ℕ, List, length, Bool, true, false, Option, None, codes}
 use Rattle.pl_head.specs.Front.{Front, IsFront}
 use Rattle.pl_head.specs.Reply.{code_of, reply_bytes}
 use Rattle.pl_head.specs.declared.status.Status.{Status}
@@ -7,7 +7,7 @@ use Rattle.pl_head.specs.declared.status.Status.TheVariants.{InternalServerError
 use Rattle.pl_head.specs.declared.status.Status.TheVariants.{ServiceUnavailable}
 use Rattle.pl_head.specs.declared.reply.Media.{Media}
 use Rattle.pl_head.specs.declared.reply.Media.TheVariants.{Json}
-use Rattle.pl_io.specs.Told.{plus, Partly}
+use Rattle.pl_io.specs.Told.{plus, HasRoom, Partly}
 use Rattle.pl_keeper.specs.Archive.{Archive}
 use Rattle.pl_web.specs.Answers.{SaysSome}
 use Rattle.pl_web.specs.Outcome.{outcome}
@@ -18,12 +18,18 @@ abbrev pub IsSent : Bool → Option (List ℕ) → Option (List ℕ) → List �
 IsSent true old new text = new ≡ plus old text
 IsSent false old new text = Partly old new text
 
+-- and all of it where the room was told and long enough
+pub record Sends (room : Option ℕ) (old new : Option (List ℕ)) (sent : Bool) (text : List ℕ)
+    : Type 0 where
+  pub bytes : IsSent sent old new text
+  pub fits : HasRoom room (length text) → sent ≡ true
+
 -- some bytes were appended, or none
 abbrev pub Grew : Option (List ℕ) → Option (List ℕ) → Type 0
 Grew old new = (part : List ℕ) × (new ≡ plus old part)
 
 -- the reply and the rows are those of the outcome of the text that came
-pub record Replies (text : List ℕ) (a : Archive) (Tells : Archive → Type 0)
+pub record Replies (text : List ℕ) (a : Archive) (Tells : Archive → Type 0) (room : Option ℕ)
     (old new : Option (List ℕ)) (served : Served) : Type 0 where
   pub front : Front
   pub begins : IsFront text front
@@ -32,7 +38,7 @@ pub record Replies (text : List ℕ) (a : Archive) (Tells : Archive → Type 0)
   pub body : List ℕ
   pub is : SaysSome (outcome a text front).answer status media body
   pub code : served.status ≡ code_of status
-  pub sent : IsSent served.sent old new (reply_bytes status media body)
+  pub sends : Sends room old new served.sent (reply_bytes status media body)
   pub rows : Tells (outcome a text front).rows
 
 -- the peer ended within its request

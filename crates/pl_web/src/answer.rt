@@ -102,7 +102,7 @@ fn answer_asked<C: Conn, K: Keeper>(
     requires short { HasShortBody request }
     ensures answers { K.lives keeper.new → (a : Archive) → K.tells keeper.old a →
         (rest : List ℕ) → C.incoming conn.old ≡ Some rest →
-        Answers (outcome_of a (have.now ++ rest) (asked_in (Ok request)))
+        Answers (outcome_of a (have.now ++ rest) (asked_in (Ok request.entry)))
         a (K.tells keeper.new) result }
     ensures lived { K.lives keeper.new → K.lives keeper.old }
     ensures sure { StaysSure (K.sure keeper.old) (K.sure keeper.new) result }

@@ -3,7 +3,7 @@ ghost use Rattle.std.specs.Prelude.{◌≡◌, ◌≢◌, ℕ, List, true, Some}
 ghost use Rattle.pl_head.specs.Front.{Front};
 ghost use Rattle.pl_keeper.specs.Archive.{Archive};
 ghost use Rattle.pl_web.specs.Answer.{Answer};
-ghost use Rattle.pl_web.specs.Laws.{ActsOnce, AgreeFor, AgreeOn, Grows, IsStored, bench_of};
+ghost use Rattle.pl_web.specs.Laws.{ActsOnce, AgreeFor, AgreeOn, Grows, bench_of, is_stored};
 ghost use Rattle.pl_web.specs.Laws.{is_upload};
 ghost use Rattle.pl_web.specs.Outcome.{outcome, outcome_of};
 ghost use Rattle.pl_web.specs.Requests.{Asked};
@@ -25,6 +25,6 @@ pub fn rows_stay()
 pub fn acts_once()
     ensures { (old now : Archive) (rest : List ℕ) (asked : Asked) (answer : Answer) →
         is_upload asked ≡ true → (outcome_of old rest asked).answer ≡ Some answer →
-        IsStored answer.status → Grows (outcome_of old rest asked).rows now →
+        is_stored answer.status ≡ true → Grows (outcome_of old rest asked).rows now →
         ActsOnce asked rest old now answer }
 {}

@@ -46,7 +46,7 @@ pub(crate) fn unprocessable(body: Result<Vec<u8>, AllocError>) -> Result<Reply, 
 }
 
 /// The reply to a request that is refused before anything is looked up.
-#[tactic(auto, using(crate::proofs::Replies::refusals_answer))]
+#[tactic(auto, using(crate::proofs::Refused::refusals_answer))]
 pub(crate) fn refuse(alloc: Global, refusal: Refusal) -> Result<Reply, Ended>
     ensures { AnswersWith (json_answer (status_of refusal) (body_of refusal)) result }
 {

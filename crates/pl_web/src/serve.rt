@@ -7,14 +7,13 @@ ghost use Rattle.pl_head.specs.Form.{form_of};
 ghost use Rattle.pl_head.specs.Opening.{BeginsAs, OpeningReads, filled_of};
 ghost use Rattle.pl_head.specs.Reply.{code_of, reply_bytes};
 ghost use Rattle.pl_io.specs.Faults.{Rose};
-ghost use Rattle.pl_io.specs.Told.{HasRoom};
 ghost use Rattle.pl_keeper.specs.Archive.{Archive};
 ghost use Rattle.pl_web.specs.Answers.{Answers, AnswersText};
 ghost use Rattle.pl_web.specs.Ended.{ConnCause, IsUnlost, KeeperCause};
 ghost use Rattle.pl_web.specs.Ended.{StaysSure};
 ghost use Rattle.pl_web.specs.Outcome.{outcome_of};
 ghost use Rattle.pl_web.specs.Requests.{asked_by};
-ghost use Rattle.pl_web.specs.Served.{EndsEarly, Grew, IsSent, Replies, memory_reply, store_reply};
+ghost use Rattle.pl_web.specs.Served.{EndsEarly, Grew, Replies, Sends, memory_reply, store_reply};
 
 use crate::answer::answer_request;
 use crate::bodies;
@@ -188,12 +187,10 @@ pub struct Served {
 #[tactic(auto, using(crate::proofs::Sent::grows))]
 fn send<C: Conn>(conn: &mut C, status: Status, media: Media, body: &[u8]) -> Served
     ensures status { result.status ≡ code_of status }
-    ensures sent { IsSent result.sent (C.written conn.old) (C.written conn.new)
+    ensures sends { Sends (C.room conn.old) (C.written conn.old) (C.written conn.new) result.sent
         (reply_bytes status media body.now) }
     ensures incoming { C.incoming conn.new ≡ C.incoming conn.old }
     ensures appended { Grew (C.written conn.old) (C.written conn.new) }
-    ensures fits { HasRoom (C.room conn.old) (length (reply_bytes status media body.now)) →
-        result.sent ≡ true }
     ensures kept { result.sent ≡ true → C.faults conn.new ≡ C.faults conn.old }
     ensures failed { result.sent ≡ false → Rose (C.faults conn.old) (C.faults conn.new) }
     ensures never_falls { C.faults conn.old ≤ C.faults conn.new }
@@ -222,7 +219,8 @@ pub fn serve_one<C: Conn, K: Keeper>(
     ensures replies { K.lives keeper.new → (a : Archive) → K.tells keeper.old a →
         (text : List ℕ) → C.incoming conn.old ≡ Some text →
         result.status ≢ 0 → result.status ≢ 500 → result.status ≢ 503 →
-        Replies text a (K.tells keeper.new) (C.written conn.old) (C.written conn.new) result }
+        Replies text a (K.tells keeper.new) (C.room conn.old) (C.written conn.old)
+        (C.written conn.new) result }
 
     // Without a reply nothing was sent and no row changed: a read failed, or the request ended
     // early.
@@ -234,10 +232,10 @@ pub fn serve_one<C: Conn, K: Keeper>(
         × (Rose (C.faults conn.old) (C.faults conn.new) ⊎ EndsEarly text a) }
 
     // Want of memory and a failed keeper have replies of their own, and change no row.
-    ensures memory { result.status ≡ 500 →
-        IsSent result.sent (C.written conn.old) (C.written conn.new) memory_reply }
-    ensures store { result.status ≡ 503 →
-        IsSent result.sent (C.written conn.old) (C.written conn.new) store_reply
+    ensures memory { result.status ≡ 500 → Sends (C.room conn.old) (C.written conn.old)
+        (C.written conn.new) result.sent memory_reply }
+    ensures store { result.status ≡ 503 → Sends (C.room conn.old) (C.written conn.old)
+        (C.written conn.new) result.sent store_reply
         × Rose (K.faults keeper.old) (K.faults keeper.new) }
     ensures rows { K.lives keeper.new → (a : Archive) → K.tells keeper.old a →
         (text : List ℕ) → C.incoming conn.old ≡ Some text →
@@ -252,6 +250,9 @@ pub fn serve_one<C: Conn, K: Keeper>(
     ensures sure { K.sure keeper.old ≡ true →
         (result.status ≢ 503) × (K.sure keeper.new ≡ true) }
     ensures lived { K.lives keeper.new → K.lives keeper.old }
+    ensures kept { result.sent ≡ true → C.faults conn.new ≡ C.faults conn.old }
+    ensures quiet { IsSome (C.room conn.old) → result.status ≡ 0 →
+        C.faults conn.new ≡ C.faults conn.old }
     ensures unsent { result.sent ≡ false → result.status ≢ 0 →
         Rose (C.faults conn.old) (C.faults conn.new) }
     ensures conn_falls { C.faults conn.old ≤ C.faults conn.new }

@@ -1,4 +1,6 @@
 use Rattle.std.proofs.Common.{◌≡◌, sym, subst}
+use Rattle.std.specs.Prelude.{Err}
+use Rattle.std.proofs.lemmas.Result.{err_from_is_err_and}
 use Rattle.pl_profile.specs.ProfileOf.{profile_of}
 use Rattle.pl_web.specs.Answers.{Answers}
 use Rattle.pl_web.specs.Puts.{profile_sent}
@@ -19,10 +21,13 @@ returns-clause-answers g c = λ lives a tells rest incoming.
 
 pub returns-in_err-bytes-clause-answers : goal.returns-in_err-bytes-clause-answers
 returns-in_err-bytes-clause-answers g c = λ lives a tells rest incoming.
-    body_ended a (λ bytes. profile_sent a (record {
+    let failed = err_from_is_err_and c.from_residual.result c.from_residual.ensures.1 in
+    let ended : c.from_residual.result ≡ Err c.in_err-bytes.field-0.0 = cc (failed.1, failed.2) in
+    rw ended (body_ended a (λ bytes. profile_sent a (record {
       bench = c.args.bench.now;
       name = c.args.name.now;
       bytes = bytes;
     }) (profile_of bytes)) c.args.have.now rest c.args.size
     (g.C.Conn.incoming c.args.conn.now) (g.C.Conn.incoming c.read_body.new.conn)
-    _ (g.K.Keeper.tells c.args.keeper.now) incoming c.in_err-bytes.ensures.reads tells
+    c.in_err-bytes.field-0.0 (g.K.Keeper.tells c.args.keeper.now) incoming
+    c.in_err-bytes.ensures.reads tells)

@@ -20,8 +20,8 @@ returns-in-Judged-clause-answers g c = λ lives a tells.
     let mid = c.put_capture.ensures.lived lives in
     stored_judged a capture f 0 c.in-Judged.judged (g.K.Keeper.tells c.put_capture.new.keeper)
     c.put_capture.result
-    (subst (Judges f capture.bytes 0) c.in-Judged.is (c.in_ok-judge.ensures.judges mid a tells))
-    (c.put_capture.ensures.answers lives a (c.in_ok-judge.ensures.same mid a tells))
+    (subst (Judges f capture.bytes 0) c.in-Judged.is (c.in_ok-judged.ensures.judges mid a tells))
+    (c.put_capture.ensures.answers lives a (c.in_ok-judged.ensures.same mid a tells))
 
 pub returns-in-Refused-clause-answers : goal.returns-in-Refused-clause-answers
 returns-in-Refused-clause-answers g c = λ lives a tells.
@@ -36,5 +36,5 @@ returns-in-Refused-clause-answers g c = λ lives a tells.
     in
     stored_refused a capture f 0 c.in-Refused.reply (g.K.Keeper.tells c.judge.new.keeper)
     (subst (Judges f capture.bytes 0) c.in-Refused.is
-    (c.in_ok-judge.ensures.judges lives a tells))
-    (c.in_ok-judge.ensures.same lives a tells)
+    (c.in_ok-judged.ensures.judges lives a tells))
+    (c.in_ok-judged.ensures.same lives a tells)
