@@ -33,8 +33,8 @@ find_among f g [] = refl
 find_among f g (x ∷ xs) =
     elim (f x) as (λ b. cond (b && g x) (Some x) (find (λ y. f y && g y) xs)
     ≡ find g (cond b (x ∷ filter f xs) (filter f xs))) [
-      true ↦ ap (cond (g x) (Some x)) (find_among f g xs)
-    | false ↦ find_among f g xs
+      | true ↦ ap (cond (g x) (Some x)) (find_among f g xs)
+      | false ↦ find_among f g xs
     ]
 
 abbrev of_bench : List ℕ → Profile → Bool
@@ -112,8 +112,8 @@ with_body_same a b rest size f g same =
     elim (nat_lt (length rest) size) as (λ few.
     (cond few (unanswered a) (f (take size rest))).answer
     ≡ (cond few (unanswered b) (g (take size rest))).answer) [
-      true ↦ refl
-    | false ↦ same (take size rest)
+      | true ↦ refl
+      | false ↦ same (take size rest)
     ]
 
 shown_same : (a b : Archive) (found : Option Found)

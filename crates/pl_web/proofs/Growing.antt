@@ -36,8 +36,8 @@ module _ (a : Archive) (Holds : Archive → Type 0) (as_before : Holds a) where
   behind_body rest size f holds =
       elim (nat_lt (length rest) size) as (λ few. Holds
       (cond few (unanswered a) (f (take size rest))).rows) [
-        true ↦ as_before
-      | false ↦ holds (take size rest)
+        | true ↦ as_before
+        | false ↦ holds (take size rest)
       ]
 
   behind_put_profile : (p : Profile) (put : Put) → Holds (with_profile a p)

@@ -135,7 +135,6 @@ judged_without text capture most (Ok judging) none refuses =
     (refuses capture most)
 judged_without text capture most (Err ended) none refuses = refuses
 
-
 pub stored_judged : (a : Archive) (c : Capture) (f : Finding) (most : ℕ) (j : Judged)
     (Tells : Archive → Type 0) (result : Result Reply Ended)
     → Judges f c.bytes most (code.Judged j)

@@ -53,6 +53,6 @@ is_stored other = false
 -- An upload that was answered 200 or 201 is answered 200 with the same body wherever its row is
 -- there, and changes nothing.
 pub record ActsOnce (asked : Asked) (rest : List ℕ) (old now : Archive) (answer : Answer) : Type 0
-    where
-  pub unchanged : (outcome_of now rest asked).rows ≡ now
-  pub repeated : (outcome_of now rest asked).answer ≡ Some (record answer { status = Success })
+  where
+    pub unchanged : (outcome_of now rest asked).rows ≡ now
+    pub repeated : (outcome_of now rest asked).answer ≡ Some (record answer { status = Success })

@@ -186,12 +186,7 @@ pub fn verdicts(
     verdicts_json(alloc, bench, key, judged)
 }
 
-fn line_value(
-    alloc: Global,
-    key: &str,
-    length: u64,
-    profile: &str,
-) -> Result<Value, AllocError>
+fn line_value(alloc: Global, key: &str, length: u64, profile: &str) -> Result<Value, AllocError>
     ensures { IfOk result (λ value. view value ≡ object (member (codes "key") (string key.now)
         (member (codes "length") (number (unsigned length))
         (member (codes "profile") (string profile.now) no_members)))) }

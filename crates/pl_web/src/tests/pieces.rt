@@ -67,7 +67,7 @@ fn a_reply_without_room_is_cut(rt: HostRuntime) -> Result<(), Fail> {
 fn a_head_of_16384_bytes_is_whole_or_too_long(rt: HostRuntime) -> Result<(), Fail> {
     let alloc = rt.alloc();
     let mut keeper = MapKeeper::new(alloc, &[])?;
-    let fill = "a".repeat(alloc, 16_384 - 43)?;
+    let fill = "a".repeat(alloc, 16_384 - 45)?;
     let head = format!(in alloc; "GET /benches/b1/captures HTTP/1.1\r\nFill: {fill}\r\n\r\n")?;
     let list = b"{\"bench\":\"b1\",\"captures\":[]}";
     assert_eq!(rt; head.len(), 16_384);

@@ -68,9 +68,27 @@ fn refusals_before_the_rows_have_their_statuses(rt: HostRuntime) -> Result<(), F
     let alloc = rt.alloc();
     let mut keeper = MapKeeper::new(alloc, &[])?;
     let asked = "GET /x HTTP/1.1\r\n\r\n";
-    assert!(rt; answers(alloc, &mut keeper, asked, b"", 404, b"{\"error\":\"route\"}")?);
+    assert!(rt;
+        answers(
+            alloc,
+            &mut keeper,
+            asked,
+            b"",
+            404,
+            b"{\"error\":\"route\"}"
+        )?
+    );
     let asked = "PUT /benches/b1/captures HTTP/1.1\r\n\r\n";
-    assert!(rt; answers(alloc, &mut keeper, asked, b"", 405, b"{\"error\":\"method\"}")?);
+    assert!(rt;
+        answers(
+            alloc,
+            &mut keeper,
+            asked,
+            b"",
+            405,
+            b"{\"error\":\"method\"}"
+        )?
+    );
     let asked = "GET /benches/B1/captures HTTP/1.1\r\n\r\n";
     assert!(rt; answers(alloc, &mut keeper, asked, b"", 400, b"{\"error\":\"name\"}")?);
     let asked = "PUT /benches/b1/profiles/p2 HTTP/1.1\r\n\r\n";
@@ -81,6 +99,15 @@ fn refusals_before_the_rows_have_their_statuses(rt: HostRuntime) -> Result<(), F
     assert!(rt; answers(alloc, &mut keeper, asked, b"", 413, wanted)?);
     let asked = "DELETE /nowhere HTTP/1.1\r\nContent-Length: 1\r\nContent-Length: 1\r\n\r\n";
     assert!(rt; answers(alloc, &mut keeper, asked, b"", 400, b"{\"error\":\"form\"}")?);
-    assert!(rt; answers(alloc, &mut keeper, "GET\r\n", b"", 400, b"{\"error\":\"head\"}")?);
+    assert!(rt;
+        answers(
+            alloc,
+            &mut keeper,
+            "GET\r\n",
+            b"",
+            400,
+            b"{\"error\":\"head\"}"
+        )?
+    );
     Ok(())
 }

@@ -1,7 +1,10 @@
 //! Requests from their bytes to those of the replies, over an archive in memory.
 
 use super::asking::{CAPTURE, EMPTY, answers, put};
+use crate::{Routes, Served, serve_one};
+use pl_io::MemConn;
 use pl_keeper::{Keeper, MapKeeper};
+use std::alloc::Global;
 use std::test::Fail;
 
 #[test]
@@ -47,12 +50,63 @@ fn a_capture_is_shown_with_its_verdicts_and_its_bytes(rt: HostRuntime) -> Result
     Ok(())
 }
 
+/// A capture of 10,001 Acks with a wrong CRC.
+fn many_broken_acks(alloc: Global) -> Result<Vec<u8>, Fail> {
+    let (header, ack, end) = (&CAPTURE[..16], &CAPTURE[34..52], &CAPTURE[52..70]);
+    let mut capture = Vec::from_slice(alloc, header)?;
+    for _ in 0..10_001 {
+        capture.extend_from_slice(ack)?;
+    }
+    capture.extend_from_slice(end)?;
+    capture.extend_from_slice(&[0x27, 0x11])?;
+    Ok(capture)
+}
+
+#[test]
+fn all_verdicts_are_counted_and_the_first_10_000_are_shown(rt: HostRuntime) -> Result<(), Fail> {
+    let alloc = rt.alloc();
+    let mut keeper = MapKeeper::new(alloc, &[])?;
+    let capture = many_broken_acks(alloc)?;
+    assert!(rt; capture.len() == 16 + 10_001 * 18 + 20);
+    let _ = keeper.put_profile(alloc, "b1", "p1", b"");
+    let _ = keeper.put_capture(alloc, "b1", "k1", "p1", &capture);
+    let routes = Routes::new(alloc)?;
+    let asked = b"GET /benches/b1/captures/k1/verdicts HTTP/1.1\r\n\r\n";
+    let mut conn = MemConn::new(alloc, asked, 100_000, 1_000_000, &[])?;
+    let served = serve_one(alloc, &routes, &mut conn, &mut keeper);
+    assert!(rt;
+        served
+            == Served {
+                status: 200,
+                sent: true
+            }
+    );
+    let counts = b"\"items\":10001,\"key\":\"k1\",\"total\":10001,".as_slice();
+    assert!(rt;
+        conn.written()
+            .windows(counts.len())
+            .any(|part| part == counts)
+    );
+    let last = b"{\"at\":10000,\"first\":null,\"rule\":\"L2\",\"second\":null}]}";
+    assert!(rt; conn.written().ends_with(last));
+    Ok(())
+}
+
 #[test]
 fn a_failed_keeper_is_answered_with_503(rt: HostRuntime) -> Result<(), Fail> {
     let alloc = rt.alloc();
     let mut keeper = MapKeeper::new(alloc, &[1])?;
     let asked = "GET /benches/b1/captures HTTP/1.1\r\n\r\n";
-    assert!(rt; answers(alloc, &mut keeper, asked, b"", 503, b"{\"error\":\"store\"}")?);
+    assert!(rt;
+        answers(
+            alloc,
+            &mut keeper,
+            asked,
+            b"",
+            503,
+            b"{\"error\":\"store\"}"
+        )?
+    );
     let list = b"{\"bench\":\"b1\",\"captures\":[]}";
     assert!(rt; answers(alloc, &mut keeper, asked, b"", 200, list)?);
     Ok(())
