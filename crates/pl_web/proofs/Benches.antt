@@ -15,7 +15,7 @@ use Rattle.pl_keeper.specs.Puts.{profile_put, capture_put, put_of_profile, put_o
 use Rattle.pl_profile.specs.ProfileOf.{profile_of}
 use Rattle.pl_profile.specs.declared.error.ProfileError.{ProfileError}
 use Rattle.pl_profile.specs.declared.profile.Profile.{Profile as PortProfile}
-use Rattle.pl_web.specs.Answer.{Answer, Outcome, listing, unanswered}
+use Rattle.pl_web.specs.Answer.{Outcome, listing, unanswered}
 use Rattle.pl_web.specs.Bodies.{profile_body, capture_body}
 use Rattle.pl_web.specs.Gets.{capture_shown, verdicts_found, verdicts_shown}
 use Rattle.pl_web.specs.Judging.{Finding, judged, unjudged, finding}

@@ -1,6 +1,6 @@
 -- What the keeper answered, and the reply that was made of it.
-use Rattle.std.proofs.Common.{◌≡◌, ◌≢◌, ℕ, List, false, true, refl, sym, subst}
-use Rattle.std.specs.Prelude.{Option, Some, None, Result, Ok, Err, IfOk, IsOk, Vec, length, take}
+use Rattle.std.proofs.Common.{◌≡◌, ◌≢◌, ℕ, List, refl, sym, subst}
+use Rattle.std.specs.Prelude.{Option, None, Result, Ok, Err, IfOk, IsOk, Vec, length, take}
 use Rattle.std.specs.declared.alloc.Global.{Global}
 use Rattle.pl_capture.specs.Reading.{reading}
 use Rattle.pl_engine.specs.Judged.{judged_items, judged_verdicts}

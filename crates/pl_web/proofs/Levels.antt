@@ -3,15 +3,15 @@ use Rattle.std.proofs.Common.{◌≡◌, ℕ, ◌+◌, ◌-◌, ◌<◌, List, [
 use Rattle.std.proofs.Common.{cond, length, length-append, drop, refl, ap, sym, ◌∙◌, subst, arith}
 use Rattle.std.proofs.Common.{ltb}
 use Rattle.std.specs.Prelude.{Option, Some, None, ◌==◌, ◌&&◌, not, bytes_eq, nat_eq}
-use Rattle.std.specs.List.{list_all, ends_with}
+use Rattle.std.specs.List.{list_all}
 use Rattle.std.proofs.lemmas.Bool.Decides.{nat_tests, Decides-eqb}
 use Rattle.std.proofs.lemmas.List.{drop_at}
 use Rattle.std.specs.Cmp.Lexicographic.{pointwise}
 use Rattle.matchit.specs.Rows.{RowsOf, param_token, catch_all_token}
 use Rattle.matchit.specs.Seek.{segment, has_slash, cuts, longest_from, longest_suffix, with_suffix}
-use Rattle.matchit.specs.Seek.{own, step, param_step, seek}
+use Rattle.matchit.specs.Seek.{step, param_step, seek}
 use Rattle.pl_web.specs.Paths.{slash, is_filled}
-use Rattle.pl_web.proofs.Parts.{part_by, first_part, AreBytes, Seen, seen_so, bytes_behind}
+use Rattle.pl_web.proofs.Parts.{part_by, first_part, AreBytes, Seen, seen_so}
 use Rattle.pl_web.proofs.Steps.{under, level, under_nothing, step_same, step_other, own_under}
 use Rattle.pl_web.proofs.Steps.{own_level, step_slash, step_level, seek_nothing, seek_end}
 use Rattle.pl_web.proofs.Steps.{seek_byte, seek_param, seek_skip, seek_all}

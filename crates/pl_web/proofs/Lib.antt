@@ -1,5 +1,6 @@
 mod Benches
 mod Compact
+mod Created
 mod Cuts
 mod Found
 mod Growing

@@ -16,7 +16,7 @@ use Rattle.pl_head.specs.declared.status.Status.TheVariants.{Success}
 use Rattle.pl_keeper.specs.Archive.{Archive, Profile, Capture, profile_at, capture_at}
 use Rattle.pl_keeper.specs.Archive.{is_profile, is_capture, profiles_of, captures_of}
 use Rattle.pl_keeper.specs.Archive.{with_profile, with_capture}
-use Rattle.pl_keeper.specs.Puts.{compared, compared_capture, first_difference, profile_put}
+use Rattle.pl_keeper.specs.Puts.{compared, first_difference, profile_put}
 use Rattle.pl_keeper.specs.Puts.{capture_put, put_of_profile, put_of_capture, after_profile}
 use Rattle.pl_keeper.specs.Puts.{after_capture}
 use Rattle.pl_keeper.specs.declared.keeper.Put.{Put}
@@ -30,7 +30,7 @@ use Rattle.pl_web.specs.Bodies.{profile_body, capture_body}
 use Rattle.pl_web.specs.Judging.{Finding, judged, unjudged, by_stop, by_profile, finding}
 use Rattle.pl_web.specs.Judging.{stop_answer}
 use Rattle.pl_web.specs.Laws.{ActsOnce, Grows, is_stored, is_upload}
-use Rattle.pl_web.specs.Outcome.{with_body, outcome_of}
+use Rattle.pl_web.specs.Outcome.{outcome_of}
 use Rattle.pl_web.specs.Puts.{put_answer, profile_stored, profile_sent, capture_stored}
 use Rattle.pl_web.specs.Puts.{capture_found, capture_sent}
 use Rattle.pl_web.specs.Requests.{Asked, put_profile, put_capture, list_captures}

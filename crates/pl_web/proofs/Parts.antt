@@ -1,7 +1,7 @@
 -- A text up to its first slash, and what stands behind that.
-use Rattle.std.proofs.Common.{◌≡◌, ℕ, ◌<◌, List, [], ◌∷◌, ◌++◌, Bool, true, false, cond, length}
-use Rattle.std.proofs.Common.{refl, ap, sym, ◌∙◌, arith, ltb}
-use Rattle.std.specs.Prelude.{Option, Some, None, ◌==◌, ◌&&◌, ⊤, nat_eq}
+use Rattle.std.proofs.Common.{◌≡◌, ℕ, List, [], ◌∷◌, ◌++◌, Bool, true, false, cond}
+use Rattle.std.proofs.Common.{refl, ap, arith, ltb}
+use Rattle.std.specs.Prelude.{Option, Some, None, ◌==◌, ⊤}
 use Rattle.std.specs.List.{list_all}
 use Rattle.std.proofs.lemmas.Bool.Decides.{nat_tests, Decides-eqb}
 use Rattle.matchit.specs.Seek.{segment, has_slash}

@@ -1,12 +1,12 @@
 -- The body that was read is that of the text, or the text ends within it.
-use Rattle.std.proofs.Common.{◌≡◌, ℕ, ◌<◌, ◌≤◌, List, [], ◌++◌, length, take, Bool, true, false}
-use Rattle.std.proofs.Common.{cond, length-append, append_assoc, append-nil, arith, ap, refl, sym}
-use Rattle.std.proofs.Common.{◌∙◌, subst}
-use Rattle.std.specs.Prelude.{Option, Some, None, Result, Ok, Err, Vec, nat_lt}
+use Rattle.std.proofs.Common.{◌≡◌, ℕ, ◌<◌, ◌≤◌, List, ◌++◌, length, take, true, false}
+use Rattle.std.proofs.Common.{cond, length-append, append_assoc, append-nil, arith, ap, sym}
+use Rattle.std.proofs.Common.{◌∙◌}
+use Rattle.std.specs.Prelude.{Option, Some, None, Ok, Err, Vec, nat_lt}
 use Rattle.std.specs.declared.alloc.Global.{Global}
 use Rattle.std.proofs.lemmas.Bool.Decides.{nat_tests}
 use Rattle.std.proofs.lemmas.List.{take_at}
-use Rattle.pl_io.specs.Told.{ahead, AtEnd}
+use Rattle.pl_io.specs.Told.{ahead}
 use Rattle.pl_keeper.specs.Archive.{Archive}
 use Rattle.pl_web.specs.Answer.{Outcome, unanswered}
 use Rattle.pl_web.specs.Answers.{Answers}

@@ -1,12 +1,9 @@
 -- What follows for many requests.
 use Rattle.std.specs.Prelude.{◌≡◌, ℕ, Bool, true, false, List, ◌++◌, Option, Some, None}
-use Rattle.httparse.specs.Spans.{name_and_value}
-use Rattle.pl_head.specs.Form.{form_of}
-use Rattle.pl_head.specs.Front.{Front, whole, bad, long, short}
 use Rattle.pl_head.specs.declared.status.Status.{Status}
 use Rattle.pl_head.specs.declared.status.Status.TheVariants.{Success, Created}
 use Rattle.pl_keeper.specs.Archive.{Archive, Profile, Capture, profiles_of, captures_of}
-use Rattle.pl_web.specs.Answer.{Answer, Outcome}
+use Rattle.pl_web.specs.Answer.{Answer}
 use Rattle.pl_web.specs.Outcome.{outcome_of}
 use Rattle.pl_web.specs.Requests.{Asked, put_profile, put_capture, list_captures}
 use Rattle.pl_web.specs.Requests.{get_capture, get_verdicts, refused}
@@ -44,11 +41,20 @@ is_upload (get_capture bench key) = false
 is_upload (get_verdicts bench key) = false
 is_upload (refused refusal) = false
 
+abbrev pub is_created_as : Status → Bool
+is_created_as Created = true
+is_created_as other = false
+
 -- it was stored, or was there
 abbrev pub is_stored : Status → Bool
 is_stored Created = true
 is_stored Success = true
 is_stored other = false
+
+-- a row was stored for it
+abbrev pub is_created : Option Answer → Bool
+is_created None = false
+is_created (Some answer) = is_created_as answer.status
 
 -- An upload that was answered 200 or 201 is answered 200 with the same body wherever its row is
 -- there, and changes nothing.

@@ -1,7 +1,7 @@
 -- What the archive answers to a request, and the archive after it.
 use Rattle.std.specs.Prelude.{ℕ, List, length, take, drop, map, codes, nat_lt}
-use Rattle.std.specs.Prelude.{if◌then◌else◌, Option, Some, None, option_map}
-use Rattle.httparse.specs.Grammar.{RequestHead, print_request}
+use Rattle.std.specs.Prelude.{if◌then◌else◌, option_map}
+use Rattle.httparse.specs.Grammar.{print_request}
 use Rattle.httparse.specs.Spans.{name_and_value}
 use Rattle.pl_head.specs.Form.{form_of}
 use Rattle.pl_head.specs.Front.{Front, whole, bad, long, short, head_limit}
@@ -9,7 +9,7 @@ use Rattle.pl_head.specs.declared.status.Status.TheVariants.{BadRequest, Payload
 use Rattle.pl_keeper.specs.Archive.{Archive, capture_at}
 use Rattle.pl_keeper.specs.Listing.{found_of}
 use Rattle.pl_profile.specs.ProfileOf.{profile_of}
-use Rattle.pl_web.specs.Answer.{Answer, Outcome, json, leaves, unanswered}
+use Rattle.pl_web.specs.Answer.{Outcome, json, leaves, unanswered}
 use Rattle.pl_web.specs.Bodies.{error_body, limit_body}
 use Rattle.pl_web.specs.Gets.{captures_listed, capture_shown, verdicts_shown}
 use Rattle.pl_web.specs.Puts.{profile_sent, capture_sent}

@@ -1,5 +1,5 @@
 -- What a request with a whole head asks for, or why it is refused before anything is looked up.
-use Rattle.std.specs.Prelude.{ℕ, ◌≤◌, List, [], get_or, codes, Bool, ◌&&◌, nat_lt, bytes_eq}
+use Rattle.std.specs.Prelude.{ℕ, ◌≤◌, List, [], get_or, nat_lt, bytes_eq}
 use Rattle.std.specs.Prelude.{if◌then◌else◌, Option, Some, None, Result, Ok, Err}
 use Rattle.pl_head.specs.Reply.{method_name}
 use Rattle.pl_head.specs.declared.form.Form.{Form}

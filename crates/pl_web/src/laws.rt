@@ -1,10 +1,10 @@
 //! What follows for many requests. These functions do nothing: their contracts are the laws.
-ghost use Rattle.std.specs.Prelude.{◌≡◌, ◌≢◌, ℕ, List, true, Some};
+ghost use Rattle.std.specs.Prelude.{◌≡◌, ◌≢◌, ℕ, List, true, false, Some};
 ghost use Rattle.pl_head.specs.Front.{Front};
 ghost use Rattle.pl_keeper.specs.Archive.{Archive};
 ghost use Rattle.pl_web.specs.Answer.{Answer};
-ghost use Rattle.pl_web.specs.Laws.{ActsOnce, AgreeFor, AgreeOn, Grows, bench_of, is_stored};
-ghost use Rattle.pl_web.specs.Laws.{is_upload};
+ghost use Rattle.pl_web.specs.Laws.{ActsOnce, AgreeFor, AgreeOn, Grows, bench_of, is_created};
+ghost use Rattle.pl_web.specs.Laws.{is_stored, is_upload};
 ghost use Rattle.pl_web.specs.Outcome.{outcome, outcome_of};
 ghost use Rattle.pl_web.specs.Requests.{Asked};
 
@@ -16,9 +16,17 @@ pub fn own_bench()
         bench_of asked ≢ Some other → AgreeOn other a (outcome_of a rest asked).rows }
 {}
 
-/// No request changes a row or removes one.
+/// No request changes a row or removes one, and so no list of requests does.
 pub fn rows_stay()
-    ensures { (a : Archive) (text : List ℕ) (front : Front) → Grows a (outcome a text front).rows }
+    ensures one { (a : Archive) (text : List ℕ) (front : Front) →
+        Grows a (outcome a text front).rows }
+    ensures more { (a b c : Archive) → Grows a b → Grows b c → Grows a c }
+{}
+
+/// Only 201 adds a row.
+pub fn only_created_adds()
+    ensures { (a : Archive) (text : List ℕ) (front : Front) →
+        is_created (outcome a text front).answer ≡ false → (outcome a text front).rows ≡ a }
 {}
 
 /// A repeated upload acts once, whatever was asked in between: no row is ever changed or removed.

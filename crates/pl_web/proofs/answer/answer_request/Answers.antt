@@ -1,4 +1,4 @@
-use Rattle.std.proofs.Common.{◌≡◌, ◌++◌, subst}
+use Rattle.std.proofs.Common.{◌++◌, subst}
 use Rattle.pl_web.specs.Answers.{Answers}
 use Rattle.pl_web.specs.Outcome.{outcome_of}
 use Rattle.pl_web.proofs.answer.answer_request.Goals as goal

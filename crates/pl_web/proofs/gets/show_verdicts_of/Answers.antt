@@ -1,8 +1,6 @@
 use Rattle.std.proofs.Common.{◌≡◌, subst}
-use Rattle.std.specs.Prelude.{List, ℕ, option_map}
+use Rattle.std.specs.Prelude.{option_map}
 use Rattle.pl_keeper.specs.Archive.{profile_at}
-use Rattle.pl_web.specs.Answers.{Answers}
-use Rattle.pl_web.specs.Gets.{verdicts_found}
 use Rattle.pl_web.specs.Judged.{Judges}
 use Rattle.pl_web.specs.Judging.{Finding, finding}
 use Rattle.pl_web.proofs.Kept.{shown_judged, shown_refused}

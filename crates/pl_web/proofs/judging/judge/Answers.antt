@@ -1,4 +1,4 @@
-use Rattle.std.proofs.Common.{◌≡◌, sym}
+use Rattle.std.proofs.Common.{sym}
 use Rattle.std.specs.Prelude.{option_map}
 use Rattle.pl_keeper.specs.Archive.{profile_at}
 use Rattle.pl_web.proofs.Kept.{judged_without}

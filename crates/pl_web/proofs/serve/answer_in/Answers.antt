@@ -1,4 +1,4 @@
-use Rattle.std.proofs.Common.{◌≡◌, sym, subst, take}
+use Rattle.std.proofs.Common.{sym, subst, take}
 use Rattle.pl_head.specs.Opening.{BeginsAs, filled_of}
 use Rattle.pl_web.specs.Answers.{AnswersText}
 use Rattle.pl_web.proofs.Texts.{split_told}

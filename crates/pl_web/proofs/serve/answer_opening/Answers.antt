@@ -1,4 +1,4 @@
-use Rattle.std.proofs.Common.{◌≡◌, ◌++◌, sym, subst, take}
+use Rattle.std.proofs.Common.{◌++◌, sym, subst, take}
 use Rattle.std.specs.Prelude.{codes}
 use Rattle.pl_head.specs.Front.{whole, long, head_limit}
 use Rattle.pl_head.specs.Opening.{BeginsAs, OpeningReads, filled_of}

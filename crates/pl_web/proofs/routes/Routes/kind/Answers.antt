@@ -1,4 +1,4 @@
-use Rattle.std.proofs.Common.{◌≡◌, ap, ◌∙◌, sym, arith}
+use Rattle.std.proofs.Common.{ap, ◌∙◌, sym, arith}
 use Rattle.matchit.specs.Seek.{first}
 use Rattle.pl_web.proofs.Found.{path_found, are_bytes, kind_found}
 use Rattle.pl_web.proofs.routes.Routes.kind.Goals as goal
