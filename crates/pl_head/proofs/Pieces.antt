@@ -1,27 +1,34 @@
 -- Two pieces that are sent one after another.
-use Rattle.std.proofs.Common.{◌≡◌, ℕ, List, ◌++◌, length, length-append, append_assoc, ap, sym}
-use Rattle.std.proofs.Common.{subst, ◌∙◌}
+use Rattle.std.proofs.Common.{◌≡◌, ◌≢◌, ℕ, List, [], ◌∷◌, ◌++◌, length, length-append, append_assoc, ap, sym}
+use Rattle.std.proofs.Common.{refl, subst, ◌∙◌}
 use Rattle.std.specs.Prelude.{Option}
-use Rattle.pl_io.specs.Told.{Lowered, Partly, plus}
+use Rattle.pl_io.specs.CutShort.{CutShort}
+use Rattle.pl_io.specs.Told.{Lowered, plus}
 use Rattle.pl_io.proofs.Told.{plus-plus, Lowered_more}
 
+more_left : (a b : List ℕ) → a ≢ [] → a ++ b ≢ []
+more_left [] b some = absurd (some refl)
+more_left (x ∷ a) b some = λ none. cc
+
 -- where the first stopped, so did both
-pub Partly_first : (old new : Option (List ℕ)) (first second : List ℕ) →
-    Partly old new first → Partly old new (first ++ second)
-Partly_first old new first second sent = record {
+pub CutShort_first : (old new : Option (List ℕ)) (first second : List ℕ) →
+    CutShort old new first → CutShort old new (first ++ second)
+CutShort_first old new first second sent = record {
   part = sent.part;
   missing = sent.missing ++ second;
+  some = more_left sent.missing second sent.some;
   whole = sym (append_assoc sent.part sent.missing second)
       ∙ ap (λ bytes. bytes ++ second) sent.whole;
   written = sent.written;
 }
 
 -- where the first was sent, and the second stopped
-pub Partly_second : (old mid new : Option (List ℕ)) (first second : List ℕ) →
-    mid ≡ plus old first → Partly mid new second → Partly old new (first ++ second)
-Partly_second old mid new first second whole sent = record {
+pub CutShort_second : (old mid new : Option (List ℕ)) (first second : List ℕ) →
+    mid ≡ plus old first → CutShort mid new second → CutShort old new (first ++ second)
+CutShort_second old mid new first second whole sent = record {
   part = first ++ sent.part;
   missing = sent.missing;
+  some = sent.some;
   whole = append_assoc first sent.part sent.missing ∙ ap (λ bytes. first ++ bytes) sent.whole;
   written = sent.written ∙ ap (λ told. plus told sent.part) whole
       ∙ plus-plus old first sent.part;

@@ -2,8 +2,9 @@
 ghost use Rattle.std.specs.Prelude.{◌≡◌, ◌+◌, ◌≤◌, ◌++◌, List, ℕ, length, decimal, Option, OnOk};
 ghost use Rattle.std.specs.Prelude.{OnErr, IsOk};
 ghost use Rattle.arrayvec.specs.ArrayString.{array_string_len};
+ghost use Rattle.pl_io.specs.CutShort.{CutShort};
 ghost use Rattle.pl_io.specs.Faults.{HasCause};
-ghost use Rattle.pl_io.specs.Told.{plus, HasRoom, Lowered, Partly};
+ghost use Rattle.pl_io.specs.Told.{plus, HasRoom, Lowered};
 ghost use Rattle.pl_head.specs.Reply.{heading, media_type, reply_bytes};
 
 use crate::status::Status;
@@ -65,7 +66,7 @@ fn make_heading(status: Status, media: Media, size: u64) -> Heading
 
 /// Sends a whole reply: its lines, then `body`. It takes no memory.
 ///
-/// After `Failed` a prefix of the reply was sent, and the connection's count of faults rose; where
+/// After `Failed` a proper prefix of the reply was sent, and the connection's count of faults rose; where
 /// the connection has room for the reply it doesn't fail. What comes from the peer isn't touched.
 pub fn send_reply<C: Conn>(
     conn: &mut C,
@@ -76,7 +77,7 @@ pub fn send_reply<C: Conn>(
     ensures sent { OnOk result (C.written conn.new
         ≡ plus (C.written conn.old) (reply_bytes status media body.now)) }
     ensures part { OnErr result (
-        Partly (C.written conn.old) (C.written conn.new) (reply_bytes status media body.now)) }
+        CutShort (C.written conn.old) (C.written conn.new) (reply_bytes status media body.now)) }
     ensures incoming { C.incoming conn.new ≡ C.incoming conn.old }
     ensures fits { HasRoom (C.room conn.old) (length (reply_bytes status media body.now))
         → IsOk result }

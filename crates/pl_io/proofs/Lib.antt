@@ -1,3 +1,4 @@
+pub mod CutShort
 pub mod FaultPlan
 pub mod MemFiles
 pub mod Told

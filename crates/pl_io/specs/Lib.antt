@@ -1,3 +1,4 @@
+pub mod CutShort
 pub mod FaultPlan
 pub mod Faults
 pub mod Links

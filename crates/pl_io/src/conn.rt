@@ -1,8 +1,9 @@
 //! One connection to a peer.
 ghost use Rattle.std.specs.Prelude.{◌≡◌, ◌+◌, ◌<◌, ◌≤◌, List, ℕ, length, take};
 ghost use Rattle.std.specs.Prelude.{Option, IfOk, OnOk, OnErr, IsOk, IsSome};
+ghost use Rattle.pl_io.specs.CutShort.{CutShort};
 ghost use Rattle.pl_io.specs.Faults.{HasCause, last_count};
-ghost use Rattle.pl_io.specs.Told.{plus, ahead, AtEnd, HasRoom, Lowered, Partly};
+ghost use Rattle.pl_io.specs.Told.{plus, ahead, AtEnd, HasRoom, Lowered};
 
 use crate::failed::Failed;
 
@@ -60,10 +61,10 @@ pub trait Conn {
     ghost room_is_below: { (conn : Self) → IsSome (room conn) → faults conn < last_count };
 }
 
-/// Sends all the bytes. After `Failed` a prefix of them was sent.
+/// Sends all the bytes. After `Failed` a proper prefix of them was sent.
 pub fn send_all<C: Conn>(conn: &mut C, bytes: &[u8]) -> Result<(), Failed>
     ensures appended { OnOk result (C.written conn.new ≡ plus (C.written conn.old) bytes.now) }
-    ensures part { OnErr result (Partly (C.written conn.old) (C.written conn.new) bytes.now) }
+    ensures part { OnErr result (CutShort (C.written conn.old) (C.written conn.new) bytes.now) }
     ensures incoming { C.incoming conn.new ≡ C.incoming conn.old }
     ensures fits { HasRoom (C.room conn.old) (length bytes.now) → IsOk result }
     ensures room_left { OnOk result ((k : ℕ) →

@@ -1,3 +1,4 @@
-pub mod Lines
-pub mod Summary
 pub mod Json
+pub mod Lines
+pub mod ServedLines
+pub mod Summary

@@ -9,6 +9,7 @@ mod closing;
 mod line;
 mod list;
 mod refusal;
+mod served;
 mod summary;
 mod verdict;
 
@@ -19,6 +20,7 @@ pub use list::{item_line, list_closing_line};
 pub use refusal::{
     filter_error_line, length_line, profile_error_line, read_fault_line, stop_line, usage_line,
 };
+pub use served::{door_fault_line, served_line, store_fault_line};
 pub use summary::summary_line;
 pub use verdict::verdict_line;
 

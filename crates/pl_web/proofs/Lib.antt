@@ -6,6 +6,7 @@ mod Found
 mod Growing
 mod Kept
 mod Levels
+mod Linked
 mod Once
 mod Parts
 mod Received

@@ -1,8 +1,16 @@
 -- What was sent was appended, and fits into the room that was told.
 use Rattle.std.proofs.Common.{◌≡◌, List, ℕ, [], Bool, true, false, append-nil, ap, sym, refl, ◌∙◌}
-use Rattle.std.proofs.Common.{subst, length}
+use Rattle.std.proofs.Common.{subst, length, arith, ◌<◌}
 use Rattle.std.specs.Prelude.{Option, Some, None, IsSome}
 use Rattle.pl_io.specs.Told.{plus, HasRoom}
+use Rattle.pl_head.specs.Reply.{code_of}
+use Rattle.pl_head.specs.declared.status.Status.{Status}
+use Rattle.pl_head.specs.declared.status.Status.TheVariants.{Success, Created, BadRequest, NotFound}
+use Rattle.pl_head.specs.declared.status.Status.TheVariants.{MethodNotAllowed, Conflict}
+use Rattle.pl_head.specs.declared.status.Status.TheVariants.{LengthRequired, PayloadTooLarge}
+use Rattle.pl_head.specs.declared.status.Status.TheVariants.{UnprocessableEntity}
+use Rattle.pl_head.specs.declared.status.Status.TheVariants.{InternalServerError}
+use Rattle.pl_head.specs.declared.status.Status.TheVariants.{ServiceUnavailable}
 use Rattle.pl_web.specs.Served.{Grew, IsSent, Sends}
 
 plus_nothing : (told : Option (List ℕ)) → told ≡ plus told []
@@ -36,4 +44,20 @@ sends_from room_old room_mid old mid new sent text kept same sends = record {
   fits = λ has. sends.fits (room_left room_old room_mid (length text) kept has);
 }
 
+-- a status has three digits
+pub code_small : (status : Status) → code_of status < 1000
+code_small Success = omega arith
+code_small Created = omega arith
+code_small BadRequest = omega arith
+code_small NotFound = omega arith
+code_small (MethodNotAllowed method) = omega arith
+code_small Conflict = omega arith
+code_small LengthRequired = omega arith
+code_small PayloadTooLarge = omega arith
+code_small UnprocessableEntity = omega arith
+code_small InternalServerError = omega arith
+code_small ServiceUnavailable = omega arith
+
 pub ruleset grows = (grew_none, grew_sent, grew_from)
+
+pub ruleset sends = (grew_none, grew_sent, grew_from, code_small)

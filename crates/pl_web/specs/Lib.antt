@@ -16,3 +16,4 @@ pub mod Requests
 pub mod Router
 pub mod Served
 pub mod Statuses
+pub mod Turns

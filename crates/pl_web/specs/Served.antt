@@ -7,16 +7,17 @@ use Rattle.pl_head.specs.declared.status.Status.TheVariants.{InternalServerError
 use Rattle.pl_head.specs.declared.status.Status.TheVariants.{ServiceUnavailable}
 use Rattle.pl_head.specs.declared.reply.Media.{Media}
 use Rattle.pl_head.specs.declared.reply.Media.TheVariants.{Json}
-use Rattle.pl_io.specs.Told.{plus, HasRoom, Partly}
+use Rattle.pl_io.specs.CutShort.{CutShort}
+use Rattle.pl_io.specs.Told.{plus, HasRoom}
 use Rattle.pl_keeper.specs.Archive.{Archive}
 use Rattle.pl_web.specs.Answers.{SaysSome}
 use Rattle.pl_web.specs.Outcome.{outcome}
 use Rattle.pl_web.specs.declared.serve.Served.{Served}
 
--- the text was written, or a part of it
+-- the text was written, or a proper prefix of it
 abbrev pub IsSent : Bool → Option (List ℕ) → Option (List ℕ) → List ℕ → Type 0
 IsSent true old new text = new ≡ plus old text
-IsSent false old new text = Partly old new text
+IsSent false old new text = CutShort old new text
 
 -- and all of it where the room was told and long enough
 pub record Sends (room : Option ℕ) (old new : Option (List ℕ)) (sent : Bool) (text : List ℕ)

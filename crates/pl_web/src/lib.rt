@@ -8,6 +8,7 @@ mod ended;
 mod gets;
 mod judging;
 pub mod laws;
+mod link;
 mod names;
 mod puts;
 mod refusal;
@@ -17,6 +18,7 @@ mod request;
 mod routes;
 mod serve;
 
+pub use link::serve_link;
 pub use names::{is_name, segment};
 pub use refusal::{LONGEST_BODY, Refusal};
 pub use request::{Request, read_request};

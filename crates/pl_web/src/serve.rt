@@ -184,9 +184,10 @@ pub struct Served {
 }
 
 /// Sends a reply.
-#[tactic(auto, using(crate::proofs::Sent::grows))]
+#[tactic(auto, using(crate::proofs::Sent::sends))]
 fn send<C: Conn>(conn: &mut C, status: Status, media: Media, body: &[u8]) -> Served
     ensures status { result.status ≡ code_of status }
+    ensures small { result.status < 1000 }
     ensures sends { Sends (C.room conn.old) (C.written conn.old) (C.written conn.new) result.sent
         (reply_bytes status media body.now) }
     ensures incoming { C.incoming conn.new ≡ C.incoming conn.old }
@@ -241,7 +242,8 @@ pub fn serve_one<C: Conn, K: Keeper>(
         (text : List ℕ) → C.incoming conn.old ≡ Some text →
         (result.status ≡ 500) ⊎ (result.status ≡ 503) → K.tells keeper.new a }
 
-    // Whatever comes, bytes are only appended.
+    // Whatever comes, the status has three digits or is 0, and bytes are only appended.
+    ensures small { result.status < 1000 }
     ensures appended { Grew (C.written conn.old) (C.written conn.new) }
 
     // Faults are counted, and come from nowhere else.

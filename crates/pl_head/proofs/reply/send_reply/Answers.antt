@@ -2,7 +2,7 @@ use Rattle.std.proofs.Common.{◌≡◌, length, rules}
 use Rattle.std.specs.Prelude.{OnErr, OnOk, Result, Ok, Err}
 use Rattle.std.proofs.lemmas.Result.{err_from_is_err_and}
 use Rattle.pl_head.specs.Reply.{heading}
-use Rattle.pl_head.proofs.Pieces.{Partly_first, Partly_second, Lowered_both}
+use Rattle.pl_head.proofs.Pieces.{CutShort_first, CutShort_second, Lowered_both}
 use Rattle.pl_head.proofs.reply.send_reply.Goals as goal
 
 pub returns-in_err-send_all-clause-part : goal.returns-in_err-send_all-clause-part
@@ -10,7 +10,7 @@ returns-in_err-send_all-clause-part g c =
     let failed = err_from_is_err_and c.from_residual.result c.from_residual.ensures.1 in
     let same : c.as_bytes.result.now ≡ heading c.args.status c.args.media (length c.args.body.now)
     = search rules in
-    rw failed.1 (Partly_first _ _ _ c.args.body.now (rw same at c.in_err-send_all.ensures.part))
+    rw failed.1 (CutShort_first _ _ _ c.args.body.now (rw same at c.in_err-send_all.ensures.part))
 
 on_err : {T E : Type 0} (r : Result T E) (P Q : Type 0) → (P → Q) → OnErr r P → OnErr r Q
 on_err (Ok x) P Q f h = h
@@ -24,7 +24,7 @@ pub returns-clause-part : goal.returns-clause-part
 returns-clause-part g c =
     let same : c.as_bytes.result.now ≡ heading c.args.status c.args.media (length c.args.body.now)
     = search rules in
-    on_err _ _ _ (Partly_second _ _ _ _ _ (rw same at c.in_ok-send_all.ensures.appended))
+    on_err _ _ _ (CutShort_second _ _ _ _ _ (rw same at c.in_ok-send_all.ensures.appended))
     c.send_all-2.ensures.part
 
 pub returns-clause-room_taken : goal.returns-clause-room_taken

@@ -1,8 +1,9 @@
-use Rattle.std.proofs.Common.{rules, ◌+◌, ◌∙◌, subst, add_assoc}
+use Rattle.std.proofs.Common.{rules, arith, ◌+◌, ◌∙◌, subst, add_assoc}
 use Rattle.std.proofs.lemmas.List.{take_rest}
 use Rattle.std.proofs.lemmas.Result.{err_from_is_err_and}
 use Rattle.pl_io.specs.Told.{HasRoom}
-use Rattle.pl_io.proofs.Told.{plus_more, Lowered_more, Partly-take}
+use Rattle.pl_io.proofs.CutShort.{CutShort-take}
+use Rattle.pl_io.proofs.Told.{plus_more, Lowered_more}
 use Rattle.pl_io.proofs.conn.send_all.Goals as goal
 
 pub loop-done-preserved : goal.loop-done-preserved
@@ -19,4 +20,5 @@ loop-done-preserved g c = record {
 pub returns-in_err-done-clause-part : goal.returns-in_err-done-clause-part
 returns-in_err-done-clause-part g c =
     let failed = err_from_is_err_and c.from_residual.result c.from_residual.ensures.1 in
-    rw failed.1 (Partly-take _ _ _ _ (c.in_err-done.ensures.err ∙ c.loop-done.invariant.written))
+    rw failed.1 (CutShort-take _ _ c.args.bytes.now c.loop-done.done (omega arith)
+    (c.in_err-done.ensures.err ∙ c.loop-done.invariant.written))
