@@ -16,3 +16,4 @@ pub mod Shown
 pub mod Trials
 pub mod Headline
 pub mod Statuses
+pub mod Served
