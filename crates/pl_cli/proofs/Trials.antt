@@ -1,19 +1,18 @@
 -- What a trial comes to, and what its words are.
-use Rattle.std.proofs.Common.{◌≡◌, ◌≢◌, ◌≤◌, ◌<◌, ◌^◌, ◌⊎◌, inl, inr, get_or, List, ℕ, true, [], ◌∷◌, refl, ap, ◌∙◌, sym, subst, length, Bor, arith, Option, Some, None, IsSome}
+use Rattle.std.proofs.Common.{◌≡◌, ◌≤◌, ◌<◌, ◌^◌, ◌⊎◌, inl, inr, get_or, List, ℕ, true, [], ◌∷◌, refl, ap, ◌∙◌, sym, subst, length, Bor, arith, Option, Some, None, IsSome}
 use Rattle.std.specs.Prelude.{codes, decimal, slice_get}
 use Rattle.std.proofs.lemmas.Bool.{cases_eq}
 use Rattle.std.proofs.lemmas.Fmt.{decimal_injective}
 use Rattle.pl_io.specs.declared.shelf.Shelf as shelf
 use Rattle.pl_io.specs.declared.sink.Sink as sink
 use Rattle.pl_io.specs.Told.{HasRoom}
-use Rattle.pl_io.specs.Faults.{Rose}
 use Rattle.pl_profile.specs.ProfileOf.{usual_profile}
 use Rattle.pl_profile.specs.declared.profile.Profile.{Profile}
 use Rattle.pl_make.specs.Generated.{Gen}
 use Rattle.pl_cli.specs.Numbers.{IsCountOf, IsNumberOf, IsTrialOf}
 use Rattle.pl_cli.specs.Output.{Check, Listing, Report, View, output, status_of}
 use Rattle.pl_cli.specs.Promise.{Answers, Begins, HasFilter, IsCommand, IsTrial, Judges, Runs, Trials, filter_refused, judged, no_command, no_engine, no_filter, reported, shows, texts, trial_status, trial_text, tries, unread}
-use Rattle.pl_cli.specs.Words.{Gives, IsGenerated, IsJudged, IsUnrisen, RunsCleanly}
+use Rattle.pl_cli.specs.Words.{Gives, IsJudged, IsUnrisen, RunsCleanly}
 use Rattle.pl_cli.proofs.CommandWords.{clean_file, not_risen, three_words}
 use Rattle.pl_cli.proofs.Judged.{judged_status}
 

@@ -1,4 +1,4 @@
-use Rattle.std.proofs.Common.{◌≡◌, List, ℕ, length, sym, subst, arith}
+use Rattle.std.proofs.Common.{List, ℕ, length, sym, subst, arith}
 use Rattle.pl_io.specs.Told.{HasRoom}
 use Rattle.pl_report.specs.ServedLines.{store_fault_text, door_fault_text}
 use Rattle.pl_cli.proofs.Served.{has_less}

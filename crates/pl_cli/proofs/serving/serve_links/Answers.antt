@@ -1,4 +1,4 @@
-use Rattle.std.proofs.Common.{◌≡◌, ◌+◌, ◌-◌, ◌*◌, List, [], ℕ, drop, true, false, refl, sym, subst, ap}
+use Rattle.std.proofs.Common.{◌≡◌, ◌+◌, ◌-◌, ◌*◌, true, refl, sym, subst, ap}
 use Rattle.std.proofs.Common.{◌∙◌, arith, rules, ◌||◌}
 use Rattle.pl_io.specs.Faults.{raised}
 use Rattle.pl_io.specs.Links.{NoneLeft}

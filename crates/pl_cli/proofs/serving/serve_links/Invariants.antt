@@ -1,4 +1,4 @@
-use Rattle.std.proofs.Common.{◌≡◌, ℕ, ◌≤◌, ◌+◌, ◌-◌, ◌*◌, List, length, take, drop, true, false}
+use Rattle.std.proofs.Common.{◌≡◌, ◌≤◌, ◌+◌, ◌-◌, ◌*◌, List, true, false}
 use Rattle.std.specs.Prelude.{Some}
 use Rattle.pl_io.specs.Links.{Coming}
 use Rattle.pl_io.specs.Told.{HasRoom}
