@@ -19,3 +19,4 @@ pub mod Trials
 pub mod ServeWords
 pub mod Headline
 pub mod Statuses
+pub mod Served

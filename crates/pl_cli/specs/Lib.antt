@@ -3,6 +3,7 @@ pub mod Output
 pub mod Progress
 pub mod Promise
 pub mod ServeWords
+pub mod Serving
 pub mod Source
 pub mod WithEngine
 pub mod Words

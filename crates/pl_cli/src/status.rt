@@ -20,5 +20,9 @@ pub const READ_FAULT: u8 = 7;
 pub const WRITE_FAULT: u8 = 8;
 /// Memory was wanting.
 pub const NO_MEMORY: u8 = 9;
+/// A call of the archive's keeper failed.
+pub const STORE_FAULT: u8 = 10;
+/// The door gave no link.
+pub const DOOR_FAULT: u8 = 11;
 /// The text of the filter is refused.
 pub const FILTER: u8 = 12;
