@@ -208,7 +208,9 @@ fn a_version_1_capture_has_no_gaps(rt: HostRuntime) -> Result<(), Fail> {
         (1, "malformed 4 at item 1\n"),
         (3, "malformed 2 at item 0\n"),
     ] {
-        capture[9] = version;
+        if let Some(byte) = capture.get_mut(9) {
+            *byte = version;
+        }
         let outcome = check(rt.alloc(), &capture)?;
         assert!(rt; outcome.is(4, output), "{outcome:?}");
     }

@@ -1,6 +1,7 @@
 //! `pcielink`, a passive protocol analyser for PCI Express links. It makes the real objects, passes
 //! the words of the command line to `run` and ends with its answer.
 #![tactic(auto)]
+
 ghost use Rattle.std.specs.Prelude.{◌≡◌, Bool};
 
 use pl_cli::run;

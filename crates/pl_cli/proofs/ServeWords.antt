@@ -4,7 +4,8 @@ use Rattle.std.specs.Prelude.{codes, decimal}
 use Rattle.std.proofs.lemmas.Fmt.{decimal_injective}
 use Rattle.pl_cli.specs.Output.{View, Check, Listing, Report}
 use Rattle.pl_cli.specs.Promise.{HasFilter, IsCommand, IsTrial}
-use Rattle.pl_cli.specs.ServeWords.{IsServe, IsServing, LacksRoutes}
+use Rattle.pl_cli.specs.ServeWords.{IsServe}
+use Rattle.pl_cli.specs.Serving.{IsServeStatus}
 use Rattle.pl_cli.proofs.Trials.{letters_apart}
 
 module _ {words : List (List ℕ)} {turns : ℕ} (serve : IsServe words turns) where
@@ -31,20 +32,25 @@ module _ {words : List (List ℕ)} {turns : ℕ} (serve : IsServe words turns) w
 -- ---- the statuses
 
 -- those of the archive
-pub serve_status : (n answer : ℕ) → (answer ≡ 0) ⊎ ((8 ≤ answer) × (answer ≤ 11)) → answer ≡ n
+pub serve_status : (n answer : ℕ) → IsServeStatus answer → answer ≡ n
     → ((1 ≤ n) × (n ≤ 3)) ⊎ (n ≡ 7) → ⊥
 serve_status n answer (inl clean) is (inl h) = omega (arith, h.0)
 serve_status n answer (inl clean) is (inr h) = omega arith
 serve_status n answer (inr high) is (inl h) = omega (arith, h.1, high.0)
 serve_status n answer (inr high) is (inr h) = omega (arith, high.0)
 
-pub serve_status_12 : (answer : ℕ) → (answer ≡ 0) ⊎ ((8 ≤ answer) × (answer ≤ 11)) → answer ≡ 12 → ⊥
+pub serve_status_12 : (answer : ℕ) → IsServeStatus answer → answer ≡ 12 → ⊥
 serve_status_12 answer (inl clean) is = omega arith
 serve_status_12 answer (inr high) is = omega (arith, high.1)
 
-pub serve_most : (answer : ℕ) → (answer ≡ 0) ⊎ ((8 ≤ answer) × (answer ≤ 11)) → answer ≤ 12
+pub serve_most : (answer : ℕ) → IsServeStatus answer → answer ≤ 12
 serve_most answer (inl clean) = omega arith
 serve_most answer (inr high) = omega (arith, high.1)
+
+pub one_of_faults : (answer n : ℕ) → (answer ≡ 8) ⊎ (answer ≡ n) → 8 ≤ n → n ≤ 11
+    → IsServeStatus answer
+one_of_faults answer n (inl unwritten) least most = inr (omega arith, omega arith)
+one_of_faults answer n (inr fault) least most = inr (omega arith, omega arith)
 
 -- and those of the other commands
 pub status_most : {answer : ℕ} → (answer ≤ 9) ⊎ (answer ≡ 12) → answer ≤ 12

@@ -1,6 +1,7 @@
 -- What serving many links writes, answers and leaves.
-use Rattle.std.specs.Prelude.{◌≡◌, ℕ, ◌<◌, ◌⊎◌, List, [], ◌∷◌, ◌++◌, length, take, map, Bool, true}
-use Rattle.std.specs.Prelude.{false, ◌==◌, nat_lt, if◌then◌else◌, Option, Some, None}
+use Rattle.std.specs.Prelude.{◌≡◌, ℕ, ◌<◌, ◌≤◌, ◌⊎◌, List, [], ◌∷◌, ◌++◌, length, take, map, Bool}
+use Rattle.pl_cli.specs.declared.status.TheConstants.{CLEAN, WRITE_FAULT, DOOR_FAULT}
+use Rattle.std.specs.Prelude.{true, false, ◌==◌, nat_lt, if◌then◌else◌, Option, Some, None}
 use Rattle.std.specs.List.{flat_map, list_any}
 use Rattle.pl_io.specs.Faults.{last_count, raised}
 use Rattle.pl_io.specs.Links.{Coming}
@@ -90,3 +91,8 @@ failed_store turned.Unwritten = false
 
 abbrev pub turned_by : Served → Turned
 turned_by served = if served.status == 503 then turned.StoreFailed else turned.Served
+
+-- what serving answers: all is well, a line couldn't be written, memory was wanting, or a call of
+-- the keeper or of the door failed
+abbrev pub IsServeStatus : ℕ → Type 0
+IsServeStatus answer = (answer ≡ CLEAN) ⊎ ((WRITE_FAULT ≤ answer) × (answer ≤ DOOR_FAULT))

@@ -32,8 +32,9 @@ use crate::commands::{check, list, report};
 use crate::generated::trial;
 use crate::numbers::{count, number};
 use crate::serving::serve;
-use crate::status::{CLEAN, DOOR_FAULT, FILTER, NO_MEMORY, PROFILE, READ_FAULT, STORE_FAULT};
-use crate::status::{USAGE, WRITE_FAULT};
+use crate::status::{
+    CLEAN, DOOR_FAULT, FILTER, NO_MEMORY, PROFILE, READ_FAULT, STORE_FAULT, USAGE, WRITE_FAULT,
+};
 use pl_io::{Door, Shelf, Sink};
 use pl_keeper::Keeper;
 use pl_report::usage_line;

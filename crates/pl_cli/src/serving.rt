@@ -1,13 +1,14 @@
 //! Serves the archive: one link of a door after another, with a line for each.
-ghost use Rattle.std.specs.Prelude.{◌≡◌, ◌≢◌, ◌<◌, ◌≤◌, ◌∷◌, ◌+◌, ◌*◌, ◌||◌, List, [], ℕ, true, false};
-ghost use Rattle.std.specs.Prelude.{length, Some};
+ghost use Rattle.std.specs.Prelude.{◌≡◌, ◌≢◌, ◌<◌, ◌≤◌, ◌∷◌, ◌+◌, ◌*◌, ◌||◌, ◌⊎◌, List, [], ℕ, true};
+ghost use Rattle.std.specs.Prelude.{false, length, Some};
 ghost use Rattle.pl_io.specs.Faults.{Rose};
 ghost use Rattle.pl_io.specs.Links.{Coming, NoneLeft};
 ghost use Rattle.pl_io.specs.Told.{HasRoom, plus};
 ghost use Rattle.pl_report.specs.ServedLines.{served_text};
 ghost use Rattle.pl_web.specs.Turns.{Serves, line_of};
 ghost use Rattle.pl_web.specs.declared.serve.Served as web;
-ghost use Rattle.pl_cli.specs.Serving.{IsServed, Risen, Session, failed_store, fault_status};
+ghost use Rattle.pl_cli.specs.Serving.{IsServeStatus, IsServed, Risen, Session, failed_store};
+ghost use Rattle.pl_cli.specs.Serving.{fault_status};
 ghost use Rattle.pl_cli.specs.Serving.{last_text, turned_by};
 
 use crate::status::{CLEAN, DOOR_FAULT, NO_MEMORY, STORE_FAULT, WRITE_FAULT};
@@ -118,6 +119,7 @@ fn end<O: Sink>(out: &mut O, store_failed: bool, door_failed: bool) -> u8
     ensures sink_kept { result ≢ WRITE_FAULT → O.faults out.new ≡ O.faults out.old }
     ensures room { HasRoom (O.room out.old) 12 → result ≢ WRITE_FAULT }
     ensures memory { result ≢ NO_MEMORY }
+    ensures range { IsServeStatus result }
 {
     if store_failed {
         return end_with(out, store_fault_line(), STORE_FAULT);
@@ -139,6 +141,7 @@ fn end_with<O: Sink>(out: &mut O, line: &str, status: u8) -> u8
     ensures sink_kept { result ≢ WRITE_FAULT → O.faults out.new ≡ O.faults out.old }
     ensures room { HasRoom (O.room out.old) (length line.now) → result ≢ WRITE_FAULT }
     ensures memory { result ≢ NO_MEMORY }
+    ensures either { (result ≡ WRITE_FAULT) ⊎ (result ≡ status) }
 {
     match write_all(out, line.as_bytes()) {
         Ok(()) => status,
@@ -173,6 +176,7 @@ fn serve_links<O: Sink, D: Door, K: Keeper>(
         × (K.faults keeper.new ≡ K.faults keeper.old) }
     ensures sure { K.sure keeper.old ≡ true → result ≢ STORE_FAULT }
     ensures memory { result ≢ NO_MEMORY }
+    ensures range { IsServeStatus result }
 {
     let mut store_failed = false;
     let mut turn = 0;
@@ -230,6 +234,9 @@ pub fn serve<O: Sink, D: Door, K: Keeper>(
         Risen (K.faults keeper.old) (K.faults keeper.new) }
     ensures clean { result ≡ CLEAN → (D.faults door.new ≡ D.faults door.old)
         × (K.faults keeper.new ≡ K.faults keeper.old) }
+
+    // Each answer is one of these.
+    ensures status { IsServeStatus result }
 
     // No fault of its own making.
     ensures room { HasRoom (O.room out.old) (11 * turns + 12) → result ≢ WRITE_FAULT }

@@ -112,16 +112,23 @@ pub returns-in-Some-clause-usage_room : goal.returns-in-Some-clause-usage_room
 returns-in-Some-clause-usage_room g c = λ h room. absurd (h.no_serve (_, c.in-Some.ensures))
 
 pub returns-in-Some-clause-session : goal.returns-in-Some-clause-session
-returns-in-Some-clause-session g c = λ turns is links told n8 n9. subst (λ (n : ℕ). Session links n _ _ _ _ _ _ _ _ _ _ _ _) (serve-turns c.in-Some.ensures turns is) (c.serve.ensures.session links told n8 n9)
+returns-in-Some-clause-session g c = λ turns is links told n8 n9.
+    subst (λ (n : ℕ). Session links n (g.K.Keeper.lives c.serve.new.keeper)
+    (g.K.Keeper.tells c.args.keeper.now) (g.K.Keeper.tells c.serve.new.keeper)
+    (g.K.Keeper.faults c.args.keeper.now) (g.K.Keeper.faults c.serve.new.keeper)
+    (g.D.Door.replies c.args.door.now) (g.D.Door.replies c.serve.new.door)
+    (g.O.Sink.written c.args.out.now) (g.O.Sink.written c.serve.new.out)
+    (g.D.Door.faults c.args.door.now) (g.D.Door.faults c.serve.new.door) c.serve.result)
+    (serve-turns c.in-Some.ensures turns is) (c.serve.ensures.session links told n8 n9)
 
 pub returns-in-Some-clause-no_routes : goal.returns-in-Some-clause-no_routes
-returns-in-Some-clause-no_routes g c = λ is is9. (c.serve.ensures.no_memory is9).1
+returns-in-Some-clause-no_routes g c = λ is is9. ((c.serve.ensures.no_memory is9).1, (c.serve.ensures.no_memory is9).2)
 
 pub returns-in-Some-clause-serve_clean : goal.returns-in-Some-clause-serve_clean
 returns-in-Some-clause-serve_clean g c = λ is is0. c.serve.ensures.clean is0
 
 pub returns-in-Some-clause-serve_room : goal.returns-in-Some-clause-serve_room
-returns-in-Some-clause-serve_room g c = λ turns is room. c.serve.ensures.room (subst (λ (n : ℕ). HasRoom _ (11 * n + 12)) (sym (serve-turns c.in-Some.ensures turns is)) room)
+returns-in-Some-clause-serve_room g c = λ turns is room. c.serve.ensures.room (subst (λ (n : ℕ). HasRoom (g.O.Sink.room c.args.out.now) (11 * n + 12)) (sym (serve-turns c.in-Some.ensures turns is)) room)
 
 pub returns-in-Some-clause-door_fault : goal.returns-in-Some-clause-door_fault
 returns-in-Some-clause-door_fault g c = c.serve.ensures.door_fault
