@@ -61,9 +61,9 @@ fault_status false true = 11
 fault_status false false = 0
 
 -- where the links to come were told: so many were served as there are, or as there are turns
-pub record Session (links : List Coming) (turns : ℕ) (Lives : Type 0) (Told Tells : Archive → Type 0)
-    (before now : ℕ) (old new : Option (List (List ℕ))) (written_old written_new : Option (List ℕ))
-    (door_before door_now answer : ℕ) : Type 0 where
+pub record Session (links : List Coming) (turns : ℕ) (Lives : Type 0)
+    (Told Tells : Archive → Type 0) (before now : ℕ) (old new : Option (List (List ℕ)))
+    (written_old written_new : Option (List ℕ)) (door_before door_now answer : ℕ) : Type 0 where
   pub handled : List Handled
   pub serves : ServesAll (take turns links) Lives Told Tells before now old new handled
   pub written : written_new ≡ plus written_old (served_lines handled

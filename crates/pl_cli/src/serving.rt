@@ -1,6 +1,6 @@
 //! Serves the archive: one link of a door after another, with a line for each.
-ghost use Rattle.std.specs.Prelude.{◌≡◌, ◌≢◌, ◌<◌, ◌≤◌, ◌∷◌, ◌+◌, ◌*◌, ◌||◌, ◌⊎◌, List, [], ℕ, true};
-ghost use Rattle.std.specs.Prelude.{false, length, Some};
+ghost use Rattle.std.specs.Prelude.{◌≡◌, ◌≢◌, ◌<◌, ◌≤◌, ◌∷◌, ◌+◌, ◌*◌, ◌||◌, ◌⊎◌, List, [], ℕ};
+ghost use Rattle.std.specs.Prelude.{true, false, length, Some};
 ghost use Rattle.pl_io.specs.Faults.{Rose};
 ghost use Rattle.pl_io.specs.Links.{Coming, NoneLeft};
 ghost use Rattle.pl_io.specs.Told.{HasRoom, plus};

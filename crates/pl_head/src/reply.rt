@@ -66,8 +66,9 @@ fn make_heading(status: Status, media: Media, size: u64) -> Heading
 
 /// Sends a whole reply: its lines, then `body`. It takes no memory.
 ///
-/// After `Failed` a proper prefix of the reply was sent, and the connection's count of faults rose; where
-/// the connection has room for the reply it doesn't fail. What comes from the peer isn't touched.
+/// After `Failed` a proper prefix of the reply was sent, and the connection's count of faults rose;
+/// where the connection has room for the reply it doesn't fail. What comes from the peer isn't
+/// touched.
 pub fn send_reply<C: Conn>(
     conn: &mut C,
     status: Status,

@@ -1,5 +1,6 @@
 //! One link of a door.
-ghost use Rattle.std.specs.Prelude.{◌≡◌, ◌≢◌, ◌<◌, ◌≤◌, ◌∷◌, List, ℕ, true, false, Some, IfOk, OnErr};
+ghost use Rattle.std.specs.Prelude.{◌≡◌, ◌≢◌, ◌<◌, ◌≤◌, ◌∷◌, List, ℕ, true, false, Some};
+ghost use Rattle.std.specs.Prelude.{IfOk, OnErr};
 ghost use Rattle.std.specs.Prelude.{IsErr, IsOk, []};
 ghost use Rattle.pl_io.specs.Faults.{HasCause, Rose};
 ghost use Rattle.pl_io.specs.Links.{Coming, NoneLeft};
