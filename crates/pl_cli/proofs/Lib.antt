@@ -16,4 +16,5 @@ pub mod Shown
 pub mod Trials
 pub mod Headline
 pub mod Statuses
+pub mod Counted
 pub mod Served

@@ -1,7 +1,7 @@
 -- What serving many links writes, answers and leaves.
-use Rattle.std.specs.Prelude.{◌≡◌, ℕ, ◌<◌, ◌⊎◌, List, [], ◌∷◌, ◌++◌, length, take, map, Bool, true}
-use Rattle.std.specs.Prelude.{false, ◌==◌, nat_lt, if◌then◌else◌, Option, Some, None}
-use Rattle.std.specs.List.{flat_map, list_any}
+use Rattle.std.specs.Prelude.{◌≡◌, ℕ, ◌+◌, ◌<◌, ◌≤◌, ◌⊎◌, List, [], ◌∷◌, ◌++◌, length, take, map}
+use Rattle.std.specs.Prelude.{Bool, true, false, ◌==◌, nat_lt, if◌then◌else◌, Option, Some, None}
+use Rattle.std.specs.List.{count_by, flat_map, list_any}
 use Rattle.pl_io.specs.Faults.{last_count, raised}
 use Rattle.pl_io.specs.Links.{Coming}
 use Rattle.pl_io.specs.Told.{plus}
@@ -59,10 +59,31 @@ fault_status true door = 10
 fault_status false true = 11
 fault_status false false = 0
 
+-- the last line, by the status
+abbrev pub last_by : ℕ → List ℕ
+last_by answer =
+    if answer == 10 then store_fault_text else (if answer == 11 then door_fault_text else [])
+
+-- a failed call of the keeper is answered with 503
+abbrev pub is_store : ℕ → Bool
+is_store status = status == 503
+
+-- so many at most, unless the count of the keeper stands at its last value
+abbrev pub Counted : List ℕ → ℕ → ℕ → Type 0
+Counted statuses before now = (before + count_by is_store statuses ≤ now) ⊎ (now ≡ last_count)
+
+-- Whatever door and keeper: the lines of at most so many turns, and a last one where something
+-- failed. No more of them tell of a failed keeper than its count rose by.
+pub record Lines (turns before now : ℕ) (old new : Option (List ℕ)) (answer : ℕ) : Type 0 where
+  pub statuses : List ℕ
+  pub most : length statuses ≤ turns
+  pub written : new ≡ plus old (flat_map served_text statuses ++ last_by answer)
+  pub stores : Counted statuses before now
+
 -- where the links to come were told: so many were served as there are, or as there are turns
-pub record Session (links : List Coming) (turns : ℕ) (Lives : Type 0) (Told Tells : Archive → Type 0)
-    (before now : ℕ) (old new : Option (List (List ℕ))) (written_old written_new : Option (List ℕ))
-    (door_before door_now answer : ℕ) : Type 0 where
+pub record Session (links : List Coming) (turns : ℕ) (Lives : Type 0)
+    (Told Tells : Archive → Type 0) (before now : ℕ) (old new : Option (List (List ℕ)))
+    (written_old written_new : Option (List ℕ)) (door_before door_now answer : ℕ) : Type 0 where
   pub handled : List Handled
   pub serves : ServesAll (take turns links) Lives Told Tells before now old new handled
   pub written : written_new ≡ plus written_old (served_lines handled
