@@ -11,7 +11,7 @@ use Rattle.pl_io.specs.Faults.{Rose, last_count}
 use Rattle.pl_io.specs.Told.{plus}
 use Rattle.pl_io.proofs.Told.{plus-plus}
 use Rattle.pl_report.specs.ServedLines.{served_text}
-use Rattle.pl_cli.specs.Serving.{Counted, IsServed, Lines, fault_status, is_store, last_by}
+use Rattle.pl_cli.specs.Serving.{Counted, IsServed, Lines, fault_status, is_store}
 use Rattle.pl_cli.specs.Serving.{last_text}
 use Rattle.pl_cli.specs.declared.serving.Turned.{Turned}
 use Rattle.pl_cli.specs.declared.serving.Turned.TheVariants as turned
@@ -19,7 +19,7 @@ use Rattle.pl_cli.specs.declared.serving.Turned.TheVariants as turned
 -- the lines so far
 pub record SoWritten (turns before now : ℕ) (old new : Option (List ℕ)) : Type 0 where
   pub statuses : List ℕ
-  pub most : length statuses ≤ turns
+  pub each : length statuses ≡ turns
   pub written : new ≡ plus old (flat_map served_text statuses)
   pub stores : Counted statuses before now
 
@@ -92,7 +92,7 @@ plus_nothing (Some bytes) = ap Some (sym (append-nil bytes))
 pub none_written : (count : ℕ) (told : Option (List ℕ)) → SoWritten 0 count count told told
 none_written count told = record {
   statuses = [];
-  most = omega arith;
+  each = refl;
   written = plus_nothing told;
   stores = inl (omega arith);
 }
@@ -104,8 +104,7 @@ pub line_more : (turn before mid now : ℕ) (w0 w1 w2 : Option (List ℕ)) (t : 
     → SoWritten (turn + 1) before now w0 w2
 line_more turn before mid now w0 w1 w2 t so_far served line rose kept = record {
   statuses = so_far.statuses ++ line.0 ∷ [];
-  most =
-      omega (arith, so_far.most, length-append so_far.statuses (line.0 ∷ []));
+  each = length-append so_far.statuses (line.0 ∷ []) ∙ ap (λ n. n + 1) so_far.each;
   written =
       line.1 ∙ ap (λ o. plus o (served_text line.0)) so_far.written
       ∙ plus-plus w0 (flat_map served_text so_far.statuses) (served_text line.0)
@@ -116,22 +115,20 @@ line_more turn before mid now w0 w1 w2 t so_far served line rose kept = record {
       so_far.stores;
 }
 
-last_is : (failed door : Bool) → last_text failed door ≡ last_by (fault_status failed door)
-last_is true door = refl
-last_is false true = refl
-last_is false false = refl
-
 pub lines_end : (turn turns before now : ℕ) (w0 w1 w2 : Option (List ℕ)) (failed door : Bool)
-    (answer : ℕ) → turn ≤ turns → SoWritten turn before now w0 w1
+    (answer : ℕ) → turn ≤ turns → (door ≡ false → turn ≡ turns)
+    → SoWritten turn before now w0 w1
     → w2 ≡ plus w1 (last_text failed door) → answer ≡ fault_status failed door
     → Lines turns before now w0 w2 answer
-lines_end turn turns before now w0 w1 w2 failed door answer within so_far line status = record {
+lines_end turn turns before now w0 w1 w2 failed door answer within all so_far line status = record {
   statuses = so_far.statuses;
-  most = omega (arith, so_far.most);
+  store = failed;
+  door = door;
+  most = omega (arith, so_far.each);
+  all = λ is. so_far.each ∙ all is;
   written =
       line ∙ ap (λ o. plus o (last_text failed door)) so_far.written
-      ∙ plus-plus w0 (flat_map served_text so_far.statuses) (last_text failed door)
-      ∙ ap (λ text. plus w0 (flat_map served_text so_far.statuses ++ text))
-      (last_is failed door ∙ ap last_by (sym status));
+      ∙ plus-plus w0 (flat_map served_text so_far.statuses) (last_text failed door);
+  status = status;
   stores = so_far.stores;
 }

@@ -59,11 +59,6 @@ fault_status true door = 10
 fault_status false true = 11
 fault_status false false = 0
 
--- the last line, by the status
-abbrev pub last_by : ℕ → List ℕ
-last_by answer =
-    if answer == 10 then store_fault_text else (if answer == 11 then door_fault_text else [])
-
 -- a failed call of the keeper is answered with 503
 abbrev pub is_store : ℕ → Bool
 is_store status = status == 503
@@ -72,12 +67,16 @@ is_store status = status == 503
 abbrev pub Counted : List ℕ → ℕ → ℕ → Type 0
 Counted statuses before now = (before + count_by is_store statuses ≤ now) ⊎ (now ≡ last_count)
 
--- Whatever door and keeper: the lines of at most so many turns, and a last one where something
--- failed. No more of them tell of a failed keeper than its count rose by.
+-- Whatever door and keeper: a line for each turn, unless the door gave no link, and then the last
+-- line. No more lines tell of a failed keeper than its count rose by.
 pub record Lines (turns before now : ℕ) (old new : Option (List ℕ)) (answer : ℕ) : Type 0 where
   pub statuses : List ℕ
+  pub store : Bool
+  pub door : Bool
   pub most : length statuses ≤ turns
-  pub written : new ≡ plus old (flat_map served_text statuses ++ last_by answer)
+  pub all : door ≡ false → length statuses ≡ turns
+  pub written : new ≡ plus old (flat_map served_text statuses ++ last_text store door)
+  pub status : answer ≡ fault_status store door
   pub stores : Counted statuses before now
 
 -- where the links to come were told: so many were served as there are, or as there are turns

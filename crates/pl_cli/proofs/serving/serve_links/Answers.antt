@@ -151,7 +151,7 @@ returns-in-NoLink-clause-lines g c = λ written.
     (lines_end c.loop-turn.turn c.args.turns (g.K.Keeper.faults c.args.keeper.now)
     (g.K.Keeper.faults c.loop-turn.keeper) (g.O.Sink.written c.args.out.now)
     (g.O.Sink.written c.loop-turn.out) (g.O.Sink.written c.end.new.out)
-    c.loop-turn.store_failed true c.end.result inv.within inv.lines line
+    c.loop-turn.store_failed true c.end.result inv.within (λ is. cc) inv.lines line
     (c.end.ensures.status written))
 
 pub returns-clause-lines : goal.returns-clause-lines
@@ -160,5 +160,5 @@ returns-clause-lines g c = λ written.
     lines_end c.loop-turn.turn c.args.turns (g.K.Keeper.faults c.args.keeper.now)
     (g.K.Keeper.faults c.loop-turn.keeper) (g.O.Sink.written c.args.out.now)
     (g.O.Sink.written c.loop-turn.out) (g.O.Sink.written c.end-2.new.out)
-    c.loop-turn.store_failed false c.end-2.result inv.within inv.lines
+    c.loop-turn.store_failed false c.end-2.result inv.within (λ is. omega arith) inv.lines
     (c.end-2.ensures.written written) (c.end-2.ensures.status written)
