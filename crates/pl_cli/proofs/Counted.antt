@@ -1,8 +1,8 @@
 -- The lines that are written, and how many of them tell of a keeper that failed.
 use Rattle.std.proofs.Common.{◌≡◌, ℕ, ◌+◌, ◌≤◌, List, [], ◌∷◌, ◌++◌, length, Bool, true, false}
-use Rattle.std.proofs.Common.{refl, sym, ap, ◌∙◌, arith, ◌⊎◌, inl, inr, cond, append-nil}
+use Rattle.std.proofs.Common.{refl, sym, ap, ◌∙◌, arith, inl, inr, cond, append-nil}
 use Rattle.std.proofs.Common.{length-append}
-use Rattle.std.specs.Prelude.{◌==◌, nat_lt, Option, Some, None}
+use Rattle.std.specs.Prelude.{nat_lt, Option, Some, None}
 use Rattle.std.specs.List.{count_by, flat_map}
 use Rattle.std.proofs.lemmas.Bool.Decides.{Decides-eqb, nat_tests}
 use Rattle.std.proofs.lemmas.Grind.{flat_map-append}
