@@ -2,6 +2,8 @@
 #![tactic(auto)]
 
 #[cfg(test)]
+mod archive;
+#[cfg(test)]
 mod capture;
 #[cfg(test)]
 mod completions;

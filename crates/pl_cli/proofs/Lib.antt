@@ -19,4 +19,5 @@ pub mod Trials
 pub mod ServeWords
 pub mod Headline
 pub mod Statuses
+pub mod Counted
 pub mod Served

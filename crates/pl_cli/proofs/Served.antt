@@ -1,6 +1,7 @@
 -- One link more of those that are served.
-use Rattle.std.proofs.Common.{◌≡◌, ◌≢◌, ℕ, suc, ◌+◌, ◌<◌, ◌≤◌, List, [], ◌∷◌, ◌++◌, length, take, drop}
-use Rattle.std.proofs.Common.{map, Bool, true, false, refl, sym, subst, ap, ◌∙◌, arith, append_assoc}
+use Rattle.std.proofs.Common.{◌≡◌, ◌≢◌, ℕ, suc, ◌+◌, ◌<◌, ◌≤◌, List, [], ◌∷◌, ◌++◌, length, take}
+use Rattle.std.proofs.Common.{drop, map, Bool, true, false, refl, sym, subst, ap, ◌∙◌, arith}
+use Rattle.std.proofs.Common.{append_assoc}
 use Rattle.std.proofs.Common.{length-append, length-drop, append-nil, get_or, add-one, cond}
 use Rattle.std.proofs.Common.{◌⊎◌, inl, inr, decimal}
 use Rattle.std.specs.Prelude.{◌||◌, ◌==◌, nat_lt, Option, Some, None}
@@ -66,7 +67,8 @@ ClosedAll_more (Some replies) (Some more) new handled h all one =
     let same : more ≡ replies ++ map (λ (g : Handled). g.written) handled = cc in
     one ∙ ap (λ m. Some (m ++ h.written ∷ [])) same
     ∙ ap Some (append_assoc replies (map (λ (g : Handled). g.written) handled) (h.written ∷ []))
-    ∙ ap (λ ws. Some (replies ++ ws)) (sym (map-append (λ (g : Handled). g.written) handled (h ∷ [])))
+    ∙ ap (λ ws. Some (replies ++ ws))
+    (sym (map-append (λ (g : Handled). g.written) handled (h ∷ [])))
 
 lines_more : (handled : List Handled) (h : Handled)
     → served_lines (handled ++ h ∷ []) ≡ served_lines handled ++ served_text (line_of h.served)
@@ -212,6 +214,11 @@ has_less (Some room) n m less has = omega arith
 line_small : (sent : Bool) (status : ℕ) → status < 1000 → cond sent status 0 < 1000
 line_small true status small = small
 line_small false status small = omega arith
+
+-- a line of 503 is that of a reply of 503
+pub store_line : (sent : Bool) (status : ℕ) → cond sent status 0 ≡ 503 → status ≡ 503
+store_line true status is = is
+store_line false status is = absurd (omega arith)
 
 text_short : (n : ℕ) → n < 1000 → length (served_text n) ≤ 11
 unfolding served_text

@@ -1,8 +1,8 @@
 -- What serving many links writes, answers and leaves.
-use Rattle.std.specs.Prelude.{◌≡◌, ℕ, ◌<◌, ◌≤◌, ◌⊎◌, List, [], ◌∷◌, ◌++◌, length, take, map, Bool}
+use Rattle.std.specs.Prelude.{◌≡◌, ℕ, ◌+◌, ◌<◌, ◌≤◌, ◌⊎◌, List, [], ◌∷◌, ◌++◌, length, take, map}
+use Rattle.std.specs.Prelude.{Bool, true, false, ◌==◌, nat_lt, if◌then◌else◌, Option, Some, None}
+use Rattle.std.specs.List.{count_by, flat_map, list_any}
 use Rattle.pl_cli.specs.declared.status.TheConstants.{CLEAN, WRITE_FAULT, DOOR_FAULT}
-use Rattle.std.specs.Prelude.{true, false, ◌==◌, nat_lt, if◌then◌else◌, Option, Some, None}
-use Rattle.std.specs.List.{flat_map, list_any}
 use Rattle.pl_io.specs.Faults.{last_count, raised}
 use Rattle.pl_io.specs.Links.{Coming}
 use Rattle.pl_io.specs.Told.{plus}
@@ -59,6 +59,26 @@ abbrev pub fault_status : (store door : Bool) → ℕ
 fault_status true door = 10
 fault_status false true = 11
 fault_status false false = 0
+
+-- a failed call of the keeper is answered with 503
+abbrev pub is_store : ℕ → Bool
+is_store status = status == 503
+
+-- so many at most, unless the count of the keeper stands at its last value
+abbrev pub Counted : List ℕ → ℕ → ℕ → Type 0
+Counted statuses before now = (before + count_by is_store statuses ≤ now) ⊎ (now ≡ last_count)
+
+-- Whatever door and keeper: a line for each turn, unless the door gave no link, and then the last
+-- line. No more lines tell of a failed keeper than its count rose by.
+pub record Lines (turns before now : ℕ) (old new : Option (List ℕ)) (answer : ℕ) : Type 0 where
+  pub statuses : List ℕ
+  pub store : Bool
+  pub door : Bool
+  pub most : length statuses ≤ turns
+  pub all : door ≡ false → length statuses ≡ turns
+  pub written : new ≡ plus old (flat_map served_text statuses ++ last_text store door)
+  pub status : answer ≡ fault_status store door
+  pub stores : Counted statuses before now
 
 -- where the links to come were told: so many were served as there are, or as there are turns
 pub record Session (links : List Coming) (turns : ℕ) (Lives : Type 0)

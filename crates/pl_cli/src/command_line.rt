@@ -19,7 +19,7 @@ ghost use Rattle.pl_cli.specs.Promise.{Answers, Begins, IsCommand, IsTrial, Open
 ghost use Rattle.pl_cli.specs.Promise.{ProfileUnread, Runs, Trials, texts};
 ghost use Rattle.pl_cli.specs.Promise.{trial_status, trial_text};
 ghost use Rattle.pl_cli.specs.ServeWords.{IsNoCommand, IsServe, IsServeOf, IsServing, LacksRoutes};
-ghost use Rattle.pl_cli.specs.Serving.{Risen, Session};
+ghost use Rattle.pl_cli.specs.Serving.{Lines, Risen, Session};
 ghost use Rattle.pl_cli.specs.Source.{profile_under};
 ghost use Rattle.pl_cli.specs.Words.{AreThere, Asks, FilterIsRead, Gives, GivesCut, GivesFault};
 ghost use Rattle.pl_cli.specs.Words.{GivesPart, GivesPartOfCut, GivesPartOfFault, IsJudged};
@@ -208,6 +208,9 @@ pub fn run<H: Shelf, O: Sink, D: Door, K: Keeper>(
         (K.tells keeper.new) (K.faults keeper.old) (K.faults keeper.new) (D.replies door.old)
         (D.replies door.new) (O.written out.old) (O.written out.new)
         (D.faults door.old) (D.faults door.new) result }
+    ensures lines { (turns : ℕ) → IsServe (texts words.now) turns →
+        result ≢ WRITE_FAULT → result ≢ NO_MEMORY → Lines turns (K.faults keeper.old)
+        (K.faults keeper.new) (O.written out.old) (O.written out.new) result }
     ensures lived { K.lives keeper.new → K.lives keeper.old }
     ensures serve_alone { IsServing (texts words.now) → shelf.new ≡ shelf.old }
     ensures idle { (IsServing (texts words.now) → ⊥) →

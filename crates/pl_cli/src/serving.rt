@@ -1,15 +1,14 @@
 //! Serves the archive: one link of a door after another, with a line for each.
-ghost use Rattle.std.specs.Prelude.{◌≡◌, ◌≢◌, ◌<◌, ◌≤◌, ◌∷◌, ◌+◌, ◌*◌, ◌||◌, ◌⊎◌, List, [], ℕ};
-ghost use Rattle.std.specs.Prelude.{true, false, length, Some};
+ghost use Rattle.std.specs.Prelude.{◌≡◌, ◌≢◌, ◌≤◌, ◌∷◌, ◌+◌, ◌*◌, ◌||◌, ◌⊎◌, List, [], ℕ, true};
+ghost use Rattle.std.specs.Prelude.{false, length, Some};
 ghost use Rattle.pl_io.specs.Faults.{Rose};
 ghost use Rattle.pl_io.specs.Links.{Coming, NoneLeft};
 ghost use Rattle.pl_io.specs.Told.{HasRoom, plus};
 ghost use Rattle.pl_report.specs.ServedLines.{served_text};
 ghost use Rattle.pl_web.specs.Turns.{Serves, line_of};
 ghost use Rattle.pl_web.specs.declared.serve.Served as web;
-ghost use Rattle.pl_cli.specs.Serving.{IsServeStatus, IsServed, Risen, Session, failed_store};
-ghost use Rattle.pl_cli.specs.Serving.{fault_status};
-ghost use Rattle.pl_cli.specs.Serving.{last_text, turned_by};
+ghost use Rattle.pl_cli.specs.Serving.{IsServeStatus, IsServed, Lines, Risen, Session};
+ghost use Rattle.pl_cli.specs.Serving.{failed_store, fault_status, last_text, turned_by};
 
 use crate::status::{CLEAN, DOOR_FAULT, NO_MEMORY, STORE_FAULT, WRITE_FAULT};
 use pl_io::{Door, Sink, write_all};
@@ -68,6 +67,9 @@ fn serve_turn<O: Sink, D: Door, K: Keeper>(
         (D.replies door.new) served
         × (O.written out.new ≡ plus (O.written out.old) (served_text (line_of served)))
         × (result ≡ turned_by served) }
+    ensures line { IsServed result → (status : ℕ)
+        × (O.written out.new ≡ plus (O.written out.old) (served_text status))
+        × (status ≡ 503 → result ≡ Turned.StoreFailed) }
     ensures gives { (link : Coming) (others : List Coming) →
         D.links door.old ≡ Some (link ∷ others) →
         (result ≢ Turned.NoLink) × (D.links door.new ≡ Some others) }
@@ -165,6 +167,8 @@ fn serve_links<O: Sink, D: Door, K: Keeper>(
         (K.tells keeper.new) (K.faults keeper.old) (K.faults keeper.new) (D.replies door.old)
         (D.replies door.new) (O.written out.old) (O.written out.new)
         (D.faults door.old) (D.faults door.new) result }
+    ensures lines { result ≢ WRITE_FAULT → Lines turns (K.faults keeper.old)
+        (K.faults keeper.new) (O.written out.old) (O.written out.new) result }
     ensures lived { K.lives keeper.new → K.lives keeper.old }
     ensures unwritten { result ≡ WRITE_FAULT → Rose (O.faults out.old) (O.faults out.new) }
     ensures sink_kept { result ≢ WRITE_FAULT → O.faults out.new ≡ O.faults out.old }
@@ -221,6 +225,11 @@ pub fn serve<O: Sink, D: Door, K: Keeper>(
         (D.replies door.new) (O.written out.old) (O.written out.new)
         (D.faults door.old) (D.faults door.new) result }
     ensures lived { K.lives keeper.new → K.lives keeper.old }
+
+    // Whatever the door and the keeper tell, there are such lines, and no more of them tell of a
+    // failed keeper than its count rose by.
+    ensures lines { result ≢ WRITE_FAULT → result ≢ NO_MEMORY → Lines turns
+        (K.faults keeper.old) (K.faults keeper.new) (O.written out.old) (O.written out.new) result }
 
     // Want of memory comes before the first turn.
     ensures no_memory { result ≡ NO_MEMORY →

@@ -1,7 +1,6 @@
 -- What serving one link of a door did.
-use Rattle.std.specs.Prelude.{◌≡◌, ◌≢◌, ℕ, ◌<◌, List, [], ◌++◌, length, Bool, true, false}
-use Rattle.std.specs.Prelude.{Option, Some}
-use Rattle.std.specs.Prelude.{if◌then◌else◌}
+use Rattle.std.specs.Prelude.{◌≡◌, ◌≢◌, ℕ, ◌<◌, List, [], ◌++◌, length, Bool, true, false, Option}
+use Rattle.std.specs.Prelude.{Some, if◌then◌else◌}
 use Rattle.pl_head.specs.Front.{Front, IsFront}
 use Rattle.pl_head.specs.Reply.{code_of, reply_bytes}
 use Rattle.pl_head.specs.declared.status.Status.{Status}

@@ -1,6 +1,6 @@
 use Rattle.std.proofs.Common.{ℕ, ◌+◌, ◌*◌, inl, inr, refl, sym, subst, arith}
 use Rattle.pl_io.specs.Told.{HasRoom}
-use Rattle.pl_cli.specs.Serving.{Session}
+use Rattle.pl_cli.specs.Serving.{Lines, Session}
 use Rattle.pl_cli.proofs.Headline.{came, clean_by, complete_by, cut_short_by, exact_by, no_capture_by, no_profile_by, of_command, part_by, refused_by, refused_cut_by, refused_part_by, shelf_sure_by, sink_room_by}
 use Rattle.pl_cli.proofs.ServeWords.{both_more, no_serve_status, serve-filter, serve-trial, serve-turns, serve-view, serve_most, serve_status, serve_status_12, status_most, unopened_more}
 use Rattle.pl_cli.proofs.Statuses.{both_opened_by, filter_by, filter_only_by, filter_opened_by, filter_part_by, filter_room_by, no_memory_by, none_opened_by, one_opened_by, read_fault_by, shelf_kept_by, sink_kept_by, status_by, unopened_by, usage_by, usage_only_by, usage_room_by, write_fault_by}
@@ -120,6 +120,13 @@ returns-in-Some-clause-session g c = λ turns is links told n8 n9.
     (g.O.Sink.written c.args.out.now) (g.O.Sink.written c.serve.new.out)
     (g.D.Door.faults c.args.door.now) (g.D.Door.faults c.serve.new.door) c.serve.result)
     (serve-turns c.in-Some.ensures turns is) (c.serve.ensures.session links told n8 n9)
+
+pub returns-in-Some-clause-lines : goal.returns-in-Some-clause-lines
+returns-in-Some-clause-lines g c = λ turns is n8 n9.
+    subst (λ (n : ℕ). Lines n (g.K.Keeper.faults c.args.keeper.now)
+    (g.K.Keeper.faults c.serve.new.keeper) (g.O.Sink.written c.args.out.now)
+    (g.O.Sink.written c.serve.new.out) c.serve.result)
+    (serve-turns c.in-Some.ensures turns is) (c.serve.ensures.lines n8 n9)
 
 pub returns-in-Some-clause-no_routes : goal.returns-in-Some-clause-no_routes
 returns-in-Some-clause-no_routes g c = λ is is9. ((c.serve.ensures.no_memory is9).1, (c.serve.ensures.no_memory is9).2)
@@ -251,6 +258,9 @@ returns-in-None-clause-runs g c = λ other. c.run_words.ensures.runs
 
 pub returns-in-None-clause-session : goal.returns-in-None-clause-session
 returns-in-None-clause-session g c = λ turns is links told n8 n9. absurd (c.in-None.ensures turns is)
+
+pub returns-in-None-clause-lines : goal.returns-in-None-clause-lines
+returns-in-None-clause-lines g c = λ turns is n8 n9. absurd (c.in-None.ensures turns is)
 
 pub returns-in-None-clause-serve_alone : goal.returns-in-None-clause-serve_alone
 returns-in-None-clause-serve_alone g c = λ is. absurd (c.in-None.ensures is.0 is.1)

@@ -1,9 +1,10 @@
-use Rattle.std.proofs.Common.{◌≡◌, ◌+◌, ◌-◌, ◌*◌, true, refl, sym, subst, ap}
+use Rattle.std.proofs.Common.{◌≡◌, ◌+◌, ◌-◌, ◌*◌, true, false, refl, sym, subst, ap}
 use Rattle.std.proofs.Common.{◌∙◌, arith, rules, ◌||◌}
 use Rattle.pl_io.specs.Faults.{raised}
 use Rattle.pl_io.specs.Links.{NoneLeft}
 use Rattle.pl_io.specs.Told.{plus}
-use Rattle.pl_cli.specs.Serving.{Session, failed_store, last_text}
+use Rattle.pl_cli.specs.Serving.{Lines, Session, failed_store, last_text}
+use Rattle.pl_cli.proofs.Counted.{line_more, lines_end, none_written}
 use Rattle.pl_cli.proofs.Served.{SoMany, all_served, has_less, is_served, none_left, none_served}
 use Rattle.pl_cli.proofs.Served.{risen_more, step, still_sure, unrisen_more}
 use Rattle.pl_cli.proofs.serving.serve_links.Goals as goal
@@ -16,6 +17,7 @@ loop-turn-init g c = record {
       (g.K.Keeper.lives c.args.keeper.now) (g.K.Keeper.tells c.args.keeper.now)
       (g.K.Keeper.faults c.args.keeper.now) (g.D.Door.replies c.args.door.now)
       (g.O.Sink.written c.args.out.now) is;
+  lines = none_written (g.K.Keeper.faults c.args.keeper.now) (g.O.Sink.written c.args.out.now);
   lived = λ lives. lives;
   sink = refl;
   door = refl;
@@ -56,6 +58,12 @@ loop-turn-preserved g c =
           (g.O.Sink.written c.serve_turn.new.out) c.loop-turn.store_failed result
           (inv.session links is) turn.lived turn.empty c.in_default.not-NoLink turn.gives
           turn.serves served);
+      lines =
+          line_more c.loop-turn.turn (g.K.Keeper.faults c.args.keeper.now)
+          (g.K.Keeper.faults c.loop-turn.keeper) (g.K.Keeper.faults c.serve_turn.new.keeper)
+          (g.O.Sink.written c.args.out.now) (g.O.Sink.written c.loop-turn.out)
+          (g.O.Sink.written c.serve_turn.new.out) result inv.lines served (turn.line served)
+          turn.store turn.kept;
       lived = λ lives. inv.lived (turn.lived lives);
       sink = turn.sink_kept c.in_default.not-Unwritten ∙ inv.sink;
       door = turn.door_kept c.in_default.not-NoLink ∙ inv.door;
@@ -129,3 +137,28 @@ returns-clause-session g c = λ links is written.
     c.loop-turn.turn (g.D.Door.links c.loop-turn.door) inv.within (λ more. omega arith)
     (inv.session links is) (c.end-2.ensures.written written) (c.end-2.ensures.status written)
     inv.door
+
+pub returns-in-NoLink-clause-lines : goal.returns-in-NoLink-clause-lines
+returns-in-NoLink-clause-lines g c = λ written.
+    let inv = c.loop-turn.invariant in
+    let left = c.serve_turn.ensures.no_link c.in-NoLink.is in
+    let line : g.O.Sink.written c.end.new.out
+    ≡ plus (g.O.Sink.written c.loop-turn.out) (last_text c.loop-turn.store_failed true) =
+    c.end.ensures.written written
+    ∙ ap (λ o. plus (g.O.Sink.written o) (last_text c.loop-turn.store_failed true)) left.3 in
+    subst (λ k. Lines c.args.turns (g.K.Keeper.faults c.args.keeper.now) (g.K.Keeper.faults k)
+    (g.O.Sink.written c.args.out.now) (g.O.Sink.written c.end.new.out) c.end.result) (sym left.2)
+    (lines_end c.loop-turn.turn c.args.turns (g.K.Keeper.faults c.args.keeper.now)
+    (g.K.Keeper.faults c.loop-turn.keeper) (g.O.Sink.written c.args.out.now)
+    (g.O.Sink.written c.loop-turn.out) (g.O.Sink.written c.end.new.out)
+    c.loop-turn.store_failed true c.end.result inv.within (λ is. cc) inv.lines line
+    (c.end.ensures.status written))
+
+pub returns-clause-lines : goal.returns-clause-lines
+returns-clause-lines g c = λ written.
+    let inv = c.loop-turn.invariant in
+    lines_end c.loop-turn.turn c.args.turns (g.K.Keeper.faults c.args.keeper.now)
+    (g.K.Keeper.faults c.loop-turn.keeper) (g.O.Sink.written c.args.out.now)
+    (g.O.Sink.written c.loop-turn.out) (g.O.Sink.written c.end-2.new.out)
+    c.loop-turn.store_failed false c.end-2.result inv.within (λ is. omega arith) inv.lines
+    (c.end-2.ensures.written written) (c.end-2.ensures.status written)

@@ -3,6 +3,7 @@ use Rattle.std.specs.Prelude.{Some}
 use Rattle.pl_io.specs.Links.{Coming}
 use Rattle.pl_io.specs.Told.{HasRoom}
 use Rattle.pl_cli.specs.Serving.{Risen}
+use Rattle.pl_cli.proofs.Counted.{SoWritten}
 use Rattle.pl_cli.proofs.Served.{SoMany}
 use Rattle.pl_cli.proofs.serving.serve_links.Given as goal
 
@@ -17,6 +18,9 @@ invariant-loop-turn g l = record {
       (g.K.Keeper.faults l.initial.keeper) (g.K.Keeper.faults l.keeper)
       (g.D.Door.replies l.initial.door) (g.D.Door.replies l.door)
       (g.O.Sink.written l.initial.out) (g.O.Sink.written l.out) l.store_failed;
+  lines :
+      SoWritten l.turn (g.K.Keeper.faults l.initial.keeper) (g.K.Keeper.faults l.keeper)
+      (g.O.Sink.written l.initial.out) (g.O.Sink.written l.out);
   lived : g.K.Keeper.lives l.keeper → g.K.Keeper.lives l.initial.keeper;
   sink : g.O.Sink.faults l.out ≡ g.O.Sink.faults l.initial.out;
   door : g.D.Door.faults l.door ≡ g.D.Door.faults l.initial.door;

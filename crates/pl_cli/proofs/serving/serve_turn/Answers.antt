@@ -1,9 +1,9 @@
-use Rattle.std.proofs.Common.{◌≡◌, ◌≤◌, ◌+◌, List, ℕ, length, sym, subst, ap, ◌∙◌, arith, rules}
+use Rattle.std.proofs.Common.{◌≡◌, ◌≤◌, ◌+◌, List, ℕ, length, sym, subst, ap, ◌∙◌, arith, refl, rules}
 use Rattle.std.proofs.lemmas.Bool.{false≢true}
 use Rattle.pl_io.specs.Told.{plus}
 use Rattle.pl_report.specs.ServedLines.{served_text}
 use Rattle.pl_web.specs.Turns.{line_of}
-use Rattle.pl_cli.proofs.Served.{has_less, line_short, turned_failed, turned_served}
+use Rattle.pl_cli.proofs.Served.{has_less, line_short, store_line, turned_failed, turned_served}
 use Rattle.pl_cli.proofs.serving.serve_turn.Goals as goal
 
 pub returns-then-served-eq503-clause-serves : goal.returns-then-served-eq503-clause-serves
@@ -57,3 +57,21 @@ returns-in-Err-write_all-clause-room g c = λ more has.
     absurd (false≢true (c.in-Err-write_all.ensures.fits
     (has_less (g.O.Sink.room c.args.out.now) (11 + more) (length c.as_bytes.result.now)
     (omega arith) has)))
+
+pub returns-then-served-eq503-clause-line : goal.returns-then-served-eq503-clause-line
+returns-then-served-eq503-clause-line g c = λ is.
+    let text : c.as_bytes.result.now ≡ served_text (line_of c.in-Ok.served) = search rules in (
+      line_of c.in-Ok.served,
+      c.in-Ok-write_all.ensures.appended ∙ ap (plus (g.O.Sink.written c.args.out.now)) text,
+      λ store. refl,
+    )
+
+pub returns-else-served-eq503-clause-line : goal.returns-else-served-eq503-clause-line
+returns-else-served-eq503-clause-line g c = λ is.
+    let text : c.as_bytes.result.now ≡ served_text (line_of c.in-Ok.served) = search rules in (
+      line_of c.in-Ok.served,
+      c.in-Ok-write_all.ensures.appended ∙ ap (plus (g.O.Sink.written c.args.out.now)) text,
+      λ store.
+          absurd (c.if-served-eq503.false
+          (store_line c.in-Ok.served.sent c.in-Ok.served.status store)),
+    )
