@@ -1,8 +1,8 @@
 //! The archive over links in memory: the lines of a run that serves them, and its status.
 
 use crate::desk::{Outcome, damaged_ack};
-use pl_cli::serve;
-use pl_io::{MemConn, MemDoor, MemSink};
+use pl_cli::{run, serve};
+use pl_io::{MemConn, MemDoor, MemShelf, MemSink};
 use pl_keeper::MapKeeper;
 use std::alloc::{AllocError, Global};
 use std::test::Fail;
@@ -110,5 +110,35 @@ fn a_line_that_is_not_written_ends_the_run(rt: HostRuntime) -> Result<(), Fail> 
         outcome.status == 8 && outcome.output.starts_with(b"served 200\n"),
         "{outcome:?}"
     );
+    Ok(())
+}
+
+/// What the program answers on the words `serve ADDRESS STORE` and these turns, over one link.
+fn answered(alloc: Global, turns: &str) -> Result<Outcome, AllocError> {
+    let mut links = Vec::new(alloc);
+    links.push(link(alloc, LIST, &[])?)?;
+    let mut door = MemDoor::new(alloc, links, &[])?;
+    let mut keeper = MapKeeper::new(alloc, &[])?;
+    let mut shelf = MemShelf::new(alloc, 1, &[])?;
+    let mut out = MemSink::new(alloc, 1000, 1000, &[])?;
+    let words = ["serve", "127.0.0.1:8080", "archive.db", turns];
+    let status = run(alloc, &words, &mut shelf, &mut out, &mut door, &mut keeper);
+    let output = Vec::from_slice(alloc, out.written())?;
+    Ok(Outcome { status, output })
+}
+
+#[test]
+fn the_last_word_says_how_many_links_are_served(rt: HostRuntime) -> Result<(), Fail> {
+    let outcome = answered(rt.alloc(), "1")?;
+    assert!(rt; outcome.is(0, "served 200\n"), "{outcome:?}");
+    let outcome = answered(rt.alloc(), "2")?;
+    assert!(rt; outcome.is(11, "served 200\ndoor fault\n"), "{outcome:?}");
+    for turns in ["0", "1000001", "01", "x"] {
+        let outcome = answered(rt.alloc(), turns)?;
+        assert!(rt;
+            outcome.status == 2 && outcome.output.starts_with(b"usage: "),
+            "{turns}: {outcome:?}"
+        );
+    }
     Ok(())
 }
