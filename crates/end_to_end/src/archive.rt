@@ -3,7 +3,7 @@
 use crate::desk::{Outcome, damaged_ack};
 use pl_cli::{run, serve};
 use pl_io::{MemConn, MemDoor, MemShelf, MemSink};
-use pl_keeper::MapKeeper;
+use pl_keeper::{Keeper, MapKeeper};
 use std::alloc::{AllocError, Global};
 use std::test::Fail;
 
@@ -73,6 +73,27 @@ fn a_link_that_fails_does_not_hold_the_next(rt: HostRuntime) -> Result<(), Fail>
         outcome.is(0, "served 200\nserved 0\nserved 200\n"),
         "{outcome:?}"
     );
+    Ok(())
+}
+
+/// The peer is gone before its reply, or takes only the front of it.
+#[test]
+fn an_upload_whose_reply_fails_is_stored(rt: HostRuntime) -> Result<(), Fail> {
+    let alloc = rt.alloc();
+    for room in [0, 20] {
+        let mut keeper = MapKeeper::new(alloc, &[])?;
+        let target = b"PUT /benches/b1/profiles/p1 HTTP/1.1\r\nContent-Length: 8\r\n\r\nvcs = 1\n";
+        let mut links = Vec::new(alloc);
+        links.push(MemConn::new(alloc, target, 100, room, &[])?)?;
+        links.push(link(alloc, target, &[])?)?;
+        let outcome = serve_into(alloc, 1000, 2, links, &mut keeper)?;
+        assert!(rt;
+            outcome.is(0, "served 0\nserved 200\n"),
+            "{room}: {outcome:?}"
+        );
+        let stored = keeper.profile(alloc, "b1", "p1")?.ok_or("no profile")?;
+        assert_eq!(rt; stored.as_slice(), b"vcs = 1\n".as_slice());
+    }
     Ok(())
 }
 

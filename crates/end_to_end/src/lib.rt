@@ -30,6 +30,8 @@ mod order;
 #[cfg(test)]
 mod profile;
 #[cfg(test)]
+mod replies;
+#[cfg(test)]
 mod sequence;
 #[cfg(test)]
 mod trial;
