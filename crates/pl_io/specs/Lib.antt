@@ -1,3 +1,4 @@
+pub mod Allowed
 pub mod CutShort
 pub mod FaultPlan
 pub mod Faults

@@ -13,6 +13,7 @@ mod shelf;
 mod sink;
 mod standard_output;
 mod tcp;
+mod timed;
 
 pub use conn::{Conn, send_all};
 pub use door::Door;
@@ -23,6 +24,7 @@ pub use shelf::Shelf;
 pub use sink::{Sink, write_all};
 pub use standard_output::StdSink;
 pub use tcp::{TcpConn, TcpDoor};
+pub use timed::TimedStream;
 
 #[cfg(test)]
 mod tests;

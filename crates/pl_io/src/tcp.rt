@@ -7,13 +7,11 @@ ghost use Rattle.pl_io.specs.Faults.{HasCause};
 use crate::conn::Conn;
 use crate::door::Door;
 use crate::failed::{Failed, FaultCount};
+use crate::timed::TimedStream;
 use std::io;
 use std::io::{Read, Write};
-use std::net::{Net, OpenListener, OpenStream, TcpListener};
-use std::time::Duration;
-
-/// A peer that neither sends nor takes a byte for so many seconds is at fault.
-const PATIENCE: u64 = 10;
+use std::net::{Net, OpenListener, TcpListener};
+use std::time::Clock;
 
 /// A stream, as of a socket. It tells neither what comes nor what was written nor its room.
 #[derive(Drop)]
@@ -80,7 +78,7 @@ impl<T: Read + Write> Conn for TcpConn<T> {
 
 /// A listener at an address of the system, if one could be had. It tells neither links nor replies.
 #[derive(Drop)]
-pub struct TcpDoor<R: Net> {
+pub struct TcpDoor<R: Net + Clock + Copy> {
     /// It is kept for as long as its listener is.
     rt: R,
     listener: Option<R::Listener>,
@@ -88,7 +86,7 @@ pub struct TcpDoor<R: Net> {
     faults: FaultCount,
 }
 
-impl<R: Net> TcpDoor<R> {
+impl<R: Net + Clock + Copy> TcpDoor<R> {
     /// A door at this address, as `127.0.0.1:8080`, with no link out and no fault. Where the
     /// address can't be bound, every `next` fails.
     pub fn bind(rt: R, address: &str) -> TcpDoor<R>
@@ -104,17 +102,17 @@ impl<R: Net> TcpDoor<R> {
     }
 }
 
-/// Waits for a peer. Its stream gives up on a read or a write that takes more than ten seconds.
-fn accept<R: Net>(listener: &R::Listener) -> io::Result<R::Stream> {
+/// Waits for a peer. The time for its request begins then.
+fn accept<R: Net + Clock + Copy>(
+    rt: R,
+    listener: &R::Listener,
+) -> io::Result<TimedStream<R::Stream, R>> {
     let (stream, _) = listener.accept()?;
-    let patience = Some(Duration::from_secs(PATIENCE));
-    stream.set_read_timeout(patience)?;
-    stream.set_write_timeout(patience)?;
-    Ok(stream)
+    TimedStream::new(stream, rt)
 }
 
-impl<R: Net> Door for TcpDoor<R> {
-    type Link = TcpConn<R::Stream>;
+impl<R: Net + Clock + Copy> Door for TcpDoor<R> {
+    type Link = TcpConn<TimedStream<R::Stream, R>>;
 
     ghost links = { λ door. None };
 
@@ -127,9 +125,9 @@ impl<R: Net> Door for TcpDoor<R> {
     ghost links_are_below = { λ door never. absurd (false≢true never) };
 
     /// A peer that comes and goes before it is accepted is counted as a fault.
-    fn next(&mut self) -> Result<TcpConn<R::Stream>, Failed> {
+    fn next(&mut self) -> Result<TcpConn<TimedStream<R::Stream, R>>, Failed> {
         let stream = match &self.listener {
-            Some(listener) => accept::<R>(listener).ok(),
+            Some(listener) => accept(self.rt, listener).ok(),
             None => None,
         };
         match stream {
@@ -141,7 +139,7 @@ impl<R: Net> Door for TcpDoor<R> {
         }
     }
 
-    fn close(&mut self, _link: TcpConn<R::Stream>) {
+    fn close(&mut self, _link: TcpConn<TimedStream<R::Stream, R>>) {
         self.is_out = false;
     }
 }

@@ -4,7 +4,6 @@ use crate::{Door, TcpDoor, send_all};
 use std::io::{Read, Write};
 use std::net::{OpenListener, Shutdown, TcpStream};
 use std::test::Fail;
-use std::time::Duration;
 
 #[test]
 fn a_peer_is_heard_and_answered(rt: HostRuntime) -> Result<(), Fail> {
@@ -17,8 +16,6 @@ fn a_peer_is_heard_and_answered(rt: HostRuntime) -> Result<(), Fail> {
     peer.write_all(b"a first line")?;
     peer.shutdown(Shutdown::Write)?;
     let mut link = door.next()?;
-    assert_eq!(rt; link.stream.read_timeout()?, Some(Duration::from_secs(10)));
-    assert_eq!(rt; link.stream.write_timeout()?, Some(Duration::from_secs(10)));
     assert_eq!(rt;
         incoming(rt.alloc(), &mut link)?.as_slice(),
         b"a first line".as_slice()
