@@ -8,6 +8,7 @@ use Rattle.pl_io.proofs.Told.{plus-plus}
 use Rattle.pl_base.specs.declared.tally.Tally.{Tally}
 use Rattle.pl_capture.specs.Entry.{Entry}
 use Rattle.pl_capture.specs.Reading.{Reading, reading, Open}
+use Rattle.pl_capture.proofs.Answered.{start_stands}
 use Rattle.pl_capture.proofs.Wholes.{reading_short}
 use Rattle.pl_profile.specs.declared.profile.Profile.{Profile}
 use Rattle.pl_engine.specs.declared.engine.Engine.{Engine}
@@ -187,7 +188,7 @@ so_far_nothing {v} {k} {w} j start stands = subst (λ (x : Judging). SoFar v k.p
     nothing = record {
       judged = record {
         profile_is = refl;
-        reader_stands = record { shows = open_is; version = λ some. absurd (omega arith) };
+        reader_stands = start_stands;
         goes_on = λ s bad. let o = open_is in cc;
         engine_stands = subst (λ (xs : List Entry). engine.StandsFor k (history_after [] xs)) (sym none) stands;
         accepted = ap (refusal k.profile []) none;
