@@ -1,4 +1,4 @@
-use Rattle.std.proofs.Common.{◌≡◌, ◌≤◌, ◌+◌, ◌++◌, replicate}
+use Rattle.std.proofs.Common.{◌≡◌, ◌+◌, ◌++◌, replicate}
 use Rattle.std.specs.Vec.{vec_len, vec_capacity}
 use Rattle.pl_index.proofs.blocks.push_block.Given as goal
 

@@ -11,4 +11,4 @@ place_of-requires g c = record {
 pub returns : goal.returns
 returns g c =
     seen_at _ _ _ _ _ _ _ c.self.view_is c.requires c.self.invariant.blocks
-        (c.index.ensures ∙ ap (λ p. get_or c.self.inside.items.items p c.index.result.now) c.place_of.ensures)
+    (c.index.ensures ∙ ap (λ p. get_or c.self.inside.items.items p c.index.result.now) c.place_of.ensures)

@@ -15,5 +15,5 @@ invariant_of-result g c =
 pub returns : goal.returns
 returns g c =
     laid_unbegun _ _ _ _ _
-        (c.push_block.ensures.items ∙ ap (λ l. l ++ replicate 16 c.args.blank) c.in_ok-items.ensures.items)
-        c.push_shifts.ensures
+    (c.push_block.ensures.items ∙ ap (λ l. l ++ replicate 16 c.args.blank) c.in_ok-items.ensures.items)
+    c.push_shifts.ensures

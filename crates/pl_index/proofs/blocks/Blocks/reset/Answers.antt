@@ -17,6 +17,6 @@ invariant_of-self g c =
 pub returns : goal.returns
 returns g c =
     laid_unbegun _ _ _ _ _
-        (c.push_block.ensures.items ∙ ap (λ l. l ++ replicate 16 c.args.blank) c.clear-2.ensures.items)
-        c.push_shifts.ensures
+    (c.push_block.ensures.items ∙ ap (λ l. l ++ replicate 16 c.args.blank) c.clear-2.ensures.items)
+    c.push_shifts.ensures
     ∙ ap (λ n. replicate n c.args.blank) (sym (laid_length _ _ _ _) ∙ ap length c.self.view_is)
