@@ -2,6 +2,8 @@ pub mod Values
 pub mod Parts
 pub mod Prefixes
 pub mod WholeFits
+pub mod Data
+pub mod GroupLayouts
 pub mod Written
 pub mod FirstByte
 pub mod FirstDw

@@ -54,6 +54,13 @@ last_be_bits Addressed = bits 7 7 4
 last_be_bits Configuration = bits 7 7 4
 last_be_bits other = []
 
+-- whether it is the header of a request for memory, I/O or configuration space, or of an AtomicOp,
+-- which have an address and byte enables
+abbrev pub is_access : Layout → Bool
+is_access Addressed = true
+is_access Configuration = true
+is_access other = false
+
 -- The address, by whether the header has 4 DW: the two lowest bits of a memory or I/O address are
 -- taken as 0.
 abbrev pub address_bits : Layout → Bool → List Place

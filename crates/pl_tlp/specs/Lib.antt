@@ -2,6 +2,7 @@ pub mod Kinds
 pub mod Groups
 pub mod Header
 pub mod Fields
+pub mod Captured
 pub mod Fit
 pub mod Cost
 pub mod FirstDw

@@ -158,7 +158,7 @@ fn completion<'a>(header: &[u8], common: Tlp<'a>) -> Tlp<'a>
 
 /// Attr, whose highest bit stands in byte 1.
 #[tactic(auto, using(crate::proofs::Parts::attr_value))]
-fn attr_of(header: &[u8]) -> u8
+pub(crate) fn attr_of(header: &[u8]) -> u8
     requires { 12 ≤ length header.now }
     ensures { result ≡ value places.attr_bits header.now }
 {
@@ -167,7 +167,7 @@ fn attr_of(header: &[u8]) -> u8
 
 /// A tag, whose highest bits T9 and T8 stand in byte 1, and the others in the byte that is named.
 #[tactic(auto, using(crate::proofs::Parts::tag_value))]
-fn tag_of(header: &[u8], byte: usize) -> u16
+pub(crate) fn tag_of(header: &[u8], byte: usize) -> u16
     requires short { 12 ≤ length header.now }
     requires byte { byte < 12 }
     ensures { result
@@ -180,7 +180,7 @@ fn tag_of(header: &[u8], byte: usize) -> u16
 
 /// An address whose two lowest bits are taken as 0.
 #[tactic(auto, using(crate::proofs::Parts::aligned_address))]
-fn aligned_address(header: &[u8], wide: bool) -> u64
+pub(crate) fn aligned_address(header: &[u8], wide: bool) -> u64
     requires short { 12 ≤ length header.now }
     requires whole { spec.header_size header.now ≤ length header.now }
     requires wide { wide ≡ spec_bits.is_set places.wide_bits header.now }
@@ -190,7 +190,7 @@ fn aligned_address(header: &[u8], wide: bool) -> u64
 }
 
 /// The address as it stands in the header.
-fn address_of(header: &[u8], wide: bool) -> u64
+pub(crate) fn address_of(header: &[u8], wide: bool) -> u64
     requires short { 12 ≤ length header.now }
     requires whole { spec.header_size header.now ≤ length header.now }
     requires wide { wide ≡ spec_bits.is_set places.wide_bits header.now }
@@ -204,7 +204,7 @@ fn address_of(header: &[u8], wide: bool) -> u64
 }
 
 /// SC, UR, CRS and CA; what is reserved is read as UR.
-fn status_of(status: u8) -> u8
+pub(crate) fn status_of(status: u8) -> u8
     ensures { result ≡ spec.status_of status }
 {
     match status {
@@ -226,7 +226,7 @@ pub(crate) fn length_of(header: &[u8]) -> u16
 }
 
 /// The Byte Count of a completion, of which 0 means the largest.
-fn byte_count(header: &[u8]) -> u16
+pub(crate) fn byte_count(header: &[u8]) -> u16
     requires { 12 ≤ length header.now }
     ensures { result ≡ byte_count_of Completion header.now }
 {
