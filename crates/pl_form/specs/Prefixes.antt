@@ -23,8 +23,10 @@ has_late_local seen (end_end ∷ rest) =
 abbrev pub end_end_count : List Bool → ℕ
 end_end_count prefixes = count_by (λ end_end. end_end) prefixes
 
--- M19: a local prefix stands after an End-End one, or there are more than four End-End ones
+-- a local prefix stands after an End-End one, or there are more than four End-End ones
+abbrev pub are_misplaced : List Bool → Bool
+are_misplaced prefixes = has_late_local false prefixes || nat_lt 4 (end_end_count prefixes)
+
+-- M19: its prefixes stand in a wrong order, or there are too many
 abbrev pub breaks_m19 : Fields → Bool
-breaks_m19 x =
-    let prefixes = end_ends x.prefixes in
-    has_late_local false prefixes || nat_lt 4 (end_end_count prefixes)
+breaks_m19 x = are_misplaced (end_ends x.prefixes)

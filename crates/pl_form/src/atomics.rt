@@ -2,7 +2,6 @@
 //! PCI Express Base Specification 5.0, chapter 2, transaction layer protocol: AtomicOp requests.
 ghost use Rattle.std.specs.Prelude.{◌≡◌, ◌==◌, ◌%◌, ◌+◌, ◌≤◌, ◌++◌, None, true};
 ghost use Rattle.arrayvec.specs.ArrayVec.{array_vec_len};
-ghost use Rattle.pl_tlp.specs.Fields.{fields};
 ghost use Rattle.pl_form.specs.Atomics as spec;
 ghost use Rattle.pl_tlp.specs.Groups as spec_kinds;
 ghost use Rattle.pl_form.specs.Memory.{breaks_m6, is_too_long};
@@ -12,16 +11,22 @@ ghost use Rattle.pl_base.specs.Verdict.{verdict_if};
 use crate::memory::{breaks_m6, is_too_long};
 use pl_base::{Dir, Found, MOST_VERDICTS, Rule, add_if};
 use pl_profile::Profile;
-use pl_tlp::Tlp;
+use pl_tlp::Packet;
 
 /// Adds what an AtomicOp breaks of M3 to M8: M3 and M6.
-pub(crate) fn judge_operands(profile: &Profile, dir: Dir, tlp: &Tlp, at: u64, found: &mut Found)
-    requires kind { spec_kinds.is_atomic tlp.now.kind ≡ true }
+pub(crate) fn judge_operands<P: Packet>(
+    profile: &Profile,
+    dir: Dir,
+    tlp: &P,
+    at: u64,
+    found: &mut Found,
+)
+    requires kind { spec_kinds.is_atomic (P.fields tlp.now).kind ≡ true }
     requires room { array_vec_len found.old + 2 ≤ MOST_VERDICTS }
     ensures items { found.new.items
         ≡ found.old.items
-        ++ (verdict_if (is_too_long profile.now dir (fields tlp.now)) Rule.M3 at None None
-        ++ verdict_if (breaks_m6 (fields tlp.now)) Rule.M6 at None None) }
+        ++ (verdict_if (is_too_long profile.now dir (P.fields tlp.now)) Rule.M3 at None None
+        ++ verdict_if (breaks_m6 (P.fields tlp.now)) Rule.M6 at None None) }
     ensures most { array_vec_len found.new ≤ array_vec_len found.old + 2 }
 {
     let too_long = is_too_long(profile, dir, tlp);
@@ -31,9 +36,9 @@ pub(crate) fn judge_operands(profile: &Profile, dir: Dir, tlp: &Tlp, at: u64, fo
 
 /// Adds what a TLP breaks of M11 and M12.
 #[tactic(auto, unfolding(crate::specs::Verdicts::atomic_verdicts))]
-pub(crate) fn judge_atomic(tlp: &Tlp, at: u64, found: &mut Found)
+pub(crate) fn judge_atomic<P: Packet>(tlp: &P, at: u64, found: &mut Found)
     requires { array_vec_len found.old + 2 ≤ MOST_VERDICTS }
-    ensures items { found.new.items ≡ found.old.items ++ atomic_verdicts (fields tlp.now) at }
+    ensures items { found.new.items ≡ found.old.items ++ atomic_verdicts (P.fields tlp.now) at }
     ensures most { array_vec_len found.new ≤ array_vec_len found.old + 2 }
 {
     add_if(found, breaks_m11(tlp), Rule::M11, at, None, None);
@@ -41,40 +46,42 @@ pub(crate) fn judge_atomic(tlp: &Tlp, at: u64, found: &mut Found)
 }
 
 /// M11: an AtomicOp whose Length is that of no operand.
-fn breaks_m11(tlp: &Tlp) -> bool
-    ensures { result ≡ spec.breaks_m11 (fields tlp.now) }
+fn breaks_m11<P: Packet>(tlp: &P) -> bool
+    ensures { result ≡ spec.breaks_m11 (P.fields tlp.now) }
 {
-    tlp.kind.is_atomic() && !has_operand_length(tlp)
+    tlp.kind().is_atomic() && !has_operand_length(tlp)
 }
 
 /// Whether the Length is that of one operand of 1 or 2 DW, or for Cas of two operands of 1, 2 or 4
 /// DW.
-fn has_operand_length(tlp: &Tlp) -> bool
-    ensures { result ≡ spec.has_operand_length (fields tlp.now) }
+fn has_operand_length<P: Packet>(tlp: &P) -> bool
+    ensures { result ≡ spec.has_operand_length (P.fields tlp.now) }
 {
-    if tlp.kind.is_compare_and_swap() {
-        matches!(tlp.length, 2 | 4 | 8)
+    if tlp.kind().is_compare_and_swap() {
+        matches!(tlp.length(), 2 | 4 | 8)
     } else {
-        matches!(tlp.length, 1 | 2)
+        matches!(tlp.length(), 1 | 2)
     }
 }
 
 /// M12: an AtomicOp of such a Length, whose address isn't a multiple of its operand.
-fn breaks_m12(tlp: &Tlp) -> bool
-    ensures { result ≡ spec.breaks_m12 (fields tlp.now) }
+fn breaks_m12<P: Packet>(tlp: &P) -> bool
+    ensures { result ≡ spec.breaks_m12 (P.fields tlp.now) }
 {
-    tlp.kind.is_atomic() && has_operand_length(tlp) && !is_aligned(tlp)
+    tlp.kind().is_atomic() && has_operand_length(tlp) && !is_aligned(tlp)
 }
 
 /// Whether the address is a multiple of the operand.
-fn is_aligned(tlp: &Tlp) -> bool
-    requires { spec.has_operand_length (fields tlp.now) ≡ true }
-    ensures { result ≡ (fields tlp.now).address % spec.operand_bytes (fields tlp.now) == 0 }
+#[tactic(auto, using(pl_tlp::proofs::GroupLayouts::atomic_access))]
+fn is_aligned<P: Packet>(tlp: &P) -> bool
+    requires kind { spec_kinds.is_atomic (P.fields tlp.now).kind ≡ true }
+    requires operand { spec.has_operand_length (P.fields tlp.now) ≡ true }
+    ensures { result ≡ (P.fields tlp.now).address % spec.operand_bytes (P.fields tlp.now) == 0 }
 {
-    let operand = if tlp.kind.is_compare_and_swap() {
-        2 * u64::from(tlp.length)
+    let operand = if tlp.kind().is_compare_and_swap() {
+        2 * u64::from(tlp.length())
     } else {
-        4 * u64::from(tlp.length)
+        4 * u64::from(tlp.length())
     };
-    tlp.address % operand == 0
+    tlp.address() % operand == 0
 }

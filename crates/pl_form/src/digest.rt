@@ -2,19 +2,18 @@
 //! PCI Express Base Specification 5.0, chapter 2, transaction layer protocol: ECRC rules.
 ghost use Rattle.std.specs.Prelude.{◌≡◌, ◌<◌, ◌≤◌, ◌++◌, ℕ, List, length};
 ghost use Rattle.pl_crc.specs.Crc32.{StandsFor};
-ghost use Rattle.pl_tlp.specs.Fields.{fields};
 ghost use Rattle.pl_form.specs.Digest as spec;
 
 use crate::prefixes::{PREFIX, is_end_end};
 use pl_crc::Crc32;
-use pl_tlp::Tlp;
+use pl_tlp::Packet;
 
 /// M18: it has a digest that isn't its ECRC.
-pub(crate) fn breaks_m18(tlp: &Tlp) -> bool
-    requires { 12 ≤ length tlp.now.header.now }
-    ensures { result ≡ spec.breaks_m18 (fields tlp.now) }
+pub(crate) fn breaks_m18<P: Packet>(tlp: &P) -> bool
+    requires { 12 ≤ length (P.fields tlp.now).header }
+    ensures { result ≡ spec.breaks_m18 (P.fields tlp.now) }
 {
-    match &tlp.digest {
+    match &tlp.digest() {
         Some(digest) => is_wrong(digest, tlp),
         None => false,
     }
@@ -22,24 +21,24 @@ pub(crate) fn breaks_m18(tlp: &Tlp) -> bool
 
 /// Whether a digest isn't the ECRC. Apart, since few TLPs have one.
 #[inline(never)]
-fn is_wrong(digest: &[u8; 4], tlp: &Tlp) -> bool
-    requires { 12 ≤ length tlp.now.header.now }
-    ensures { result ≡ spec.is_wrong_digest (Some digest.now) (spec.ecrc_of (fields tlp.now)) }
+fn is_wrong<P: Packet>(digest: &[u8; 4], tlp: &P) -> bool
+    requires { 12 ≤ length (P.fields tlp.now).header }
+    ensures { result ≡ spec.is_wrong_digest (Some digest.now) (spec.ecrc_of (P.fields tlp.now)) }
 {
     digest.as_slice() != ecrc(tlp).as_slice()
 }
 
 /// The ECRC over the End-End prefixes, the header with its two variant bits taken as 1, and the
 /// data.
-fn ecrc(tlp: &Tlp) -> [u8; 4]
-    requires { 12 ≤ length tlp.now.header.now }
-    ensures { result ≡ spec.ecrc_of (fields tlp.now) }
+fn ecrc<P: Packet>(tlp: &P) -> [u8; 4]
+    requires { 12 ≤ length (P.fields tlp.now).header }
+    ensures { result ≡ spec.ecrc_of (P.fields tlp.now) }
 {
-    let header = tlp.header;
-    let mut crc = end_end_prefixes(tlp.prefixes);
+    let header = tlp.header();
+    let mut crc = end_end_prefixes(tlp.prefixes());
     crc.update(&[header[0] | 0b0000_0001, header[1], header[2] | 0b0100_0000]);
     crc.update(&header[3..]);
-    crc.update(tlp.payload);
+    crc.update(tlp.payload());
     crc.value()
 }
 

@@ -2,10 +2,11 @@
 //! PCI Express Base Specification 5.0, chapter 2, transaction layer protocol.
 ghost use Rattle.std.specs.Prelude.{◌≡◌, ◌+◌, ◌≤◌, ◌++◌, length, true};
 ghost use Rattle.arrayvec.specs.ArrayVec.{array_vec_len};
-ghost use Rattle.pl_tlp.specs.Fields.{fields, outcome, Whole};
+ghost use Rattle.pl_tlp.specs.Captured.{seen_outcome};
+ghost use Rattle.pl_tlp.specs.Fields.{outcome, Whole};
 ghost use Rattle.pl_tlp.specs.Fit.{Fits, FitsIfWhole};
 ghost use Rattle.pl_form.specs.Verdicts.{formation_verdicts, kind_verdicts, other_verdicts};
-ghost use Rattle.pl_form.specs.Verdicts.{whole_verdicts, HasHeaderIfWhole};
+ghost use Rattle.pl_form.specs.Verdicts.{HasHeaderIfWhole};
 
 use crate::atomics::{judge_atomic, judge_operands};
 use crate::configuration::judge_configuration;
@@ -16,7 +17,7 @@ use crate::prefixes::breaks_m19;
 use crate::traffic::{breaks_m16, breaks_m17, breaks_m20};
 use pl_base::{Dir, Found, MOST_VERDICTS, Rule, add_if};
 use pl_profile::Profile;
-use pl_tlp::{Kind, Tlp, View};
+use pl_tlp::{Kind, Packet, Seen, View};
 
 /// The most formation rules that one TLP can break.
 pub const MOST_OF_A_TLP: usize = 18;
@@ -25,7 +26,7 @@ pub const MOST_OF_A_TLP: usize = 18;
 /// it breaks, in their order, and each cites nothing.
 ///
 /// [`judge_into`] gives the same into a list that is there already, without filling and copying
-/// one.
+/// one, and [`judge_seen_into`] where the fields stay in the bytes.
 pub fn judge(profile: &Profile, dir: Dir, view: &View, at: u64) -> Found
     requires fits { FitsIfWhole (outcome view.now) }
     requires header { HasHeaderIfWhole (outcome view.now) }
@@ -53,20 +54,45 @@ pub fn judge_into(profile: &Profile, dir: Dir, view: &View, at: u64, found: &mut
     ensures most { array_vec_len found.new ≤ array_vec_len found.old + MOST_OF_A_TLP }
 {
     match view {
-        View::Whole(tlp) => judge_whole(profile, dir, tlp, at, found),
+        View::Whole(tlp) => judge_whole_into(profile, dir, tlp, at, found),
         View::Undefined => add_if(found, true, Rule::M1, at, None, None),
         View::WrongSize => add_if(found, true, Rule::M2, at, None, None),
     }
 }
 
-/// Adds what a whole TLP breaks: M3 to M20.
-#[tactic(auto, unfolding(crate::specs::Verdicts::whole_verdicts))]
-fn judge_whole(profile: &Profile, dir: Dir, tlp: &Tlp, at: u64, found: &mut Found)
-    requires fits { Fits (fields tlp.now) }
-    requires header { 12 ≤ length tlp.now.header.now }
+/// Adds the same verdicts on a TLP whose fields stay in its bytes.
+#[rattlefmt::skip]
+#[tactic(auto, unfolding(
+    crate::specs::Verdicts::formation_verdicts,
+    crate::specs::Verdicts::whole_verdicts,
+))]
+pub fn judge_seen_into(profile: &Profile, dir: Dir, seen: &Seen, at: u64, found: &mut Found)
+    requires fits { FitsIfWhole (seen_outcome seen.now) }
+    requires header { HasHeaderIfWhole (seen_outcome seen.now) }
     requires room { array_vec_len found.old + MOST_OF_A_TLP ≤ MOST_VERDICTS }
-    ensures items { found.new.items
-        ≡ found.old.items ++ whole_verdicts profile.now dir (Whole (fields tlp.now)) at }
+    ensures verdicts { found.new.items
+        ≡ found.old.items ++ formation_verdicts profile.now dir (seen_outcome seen.now) at }
+    ensures most { array_vec_len found.new ≤ array_vec_len found.old + MOST_OF_A_TLP }
+{
+    match seen {
+        Seen::Whole(captured) => judge_whole_into(profile, dir, captured, at, found),
+        Seen::Undefined => add_if(found, true, Rule::M1, at, None, None),
+        Seen::WrongSize => add_if(found, true, Rule::M2, at, None, None),
+    }
+}
+
+/// Adds the same verdicts on a whole TLP, whether its fields are made or stay in its bytes.
+#[rattlefmt::skip]
+#[tactic(auto, unfolding(
+    crate::specs::Verdicts::formation_verdicts,
+    crate::specs::Verdicts::whole_verdicts,
+))]
+pub fn judge_whole_into<P: Packet>(profile: &Profile, dir: Dir, tlp: &P, at: u64, found: &mut Found)
+    requires fits { Fits (P.fields tlp.now) }
+    requires header { HasHeaderIfWhole (Whole (P.fields tlp.now)) }
+    requires room { array_vec_len found.old + MOST_OF_A_TLP ≤ MOST_VERDICTS }
+    ensures verdicts { found.new.items
+        ≡ found.old.items ++ formation_verdicts profile.now dir (Whole (P.fields tlp.now)) at }
     ensures most { array_vec_len found.new ≤ array_vec_len found.old + MOST_OF_A_TLP }
 {
     judge_kind(profile, dir, tlp, at, found);
@@ -82,14 +108,14 @@ fn judge_whole(profile: &Profile, dir: Dir, tlp: &Tlp, at: u64, found: &mut Foun
     crate::specs::Verdicts::atomic_verdicts,
     crate::specs::Verdicts::message_verdicts,
 ))]
-fn judge_kind(profile: &Profile, dir: Dir, tlp: &Tlp, at: u64, found: &mut Found)
-    requires length { 1 ≤ tlp.now.length }
+fn judge_kind<P: Packet>(profile: &Profile, dir: Dir, tlp: &P, at: u64, found: &mut Found)
+    requires length { 1 ≤ (P.fields tlp.now).length }
     requires room { array_vec_len found.old + 13 ≤ MOST_VERDICTS }
     ensures items { found.new.items
-        ≡ found.old.items ++ kind_verdicts profile.now dir (fields tlp.now) at }
+        ≡ found.old.items ++ kind_verdicts profile.now dir (P.fields tlp.now) at }
     ensures most { array_vec_len found.new ≤ array_vec_len found.old + 13 }
 {
-    match tlp.kind {
+    match tlp.kind() {
         Kind::MRd | Kind::MRdLk | Kind::MWr => judge_memory(profile, dir, tlp, at, found),
         Kind::IORd | Kind::IOWr => judge_configuration(dir, tlp, at, found),
         Kind::CfgRd0 | Kind::CfgWr0 | Kind::CfgRd1 | Kind::CfgWr1 => {
@@ -111,12 +137,12 @@ fn judge_kind(profile: &Profile, dir: Dir, tlp: &Tlp, at: u64, found: &mut Found
 
 /// Adds what a TLP breaks of M16 to M20.
 #[tactic(auto, unfolding(crate::specs::Verdicts::other_verdicts))]
-fn judge_other(profile: &Profile, dir: Dir, tlp: &Tlp, at: u64, found: &mut Found)
-    requires fits { Fits (fields tlp.now) }
-    requires header { 12 ≤ length tlp.now.header.now }
+fn judge_other<P: Packet>(profile: &Profile, dir: Dir, tlp: &P, at: u64, found: &mut Found)
+    requires fits { Fits (P.fields tlp.now) }
+    requires header { 12 ≤ length (P.fields tlp.now).header }
     requires room { array_vec_len found.old + 5 ≤ MOST_VERDICTS }
     ensures items { found.new.items
-        ≡ found.old.items ++ other_verdicts profile.now dir (fields tlp.now) at }
+        ≡ found.old.items ++ other_verdicts profile.now dir (P.fields tlp.now) at }
     ensures most { array_vec_len found.new ≤ array_vec_len found.old + 5 }
 {
     add_if(found, breaks_m16(profile, tlp), Rule::M16, at, None, None);

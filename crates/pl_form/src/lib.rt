@@ -13,7 +13,7 @@ mod prefixes;
 mod table;
 mod traffic;
 
-pub use formation::{MOST_OF_A_TLP, judge, judge_into};
+pub use formation::{MOST_OF_A_TLP, judge, judge_into, judge_seen_into, judge_whole_into};
 pub use laws::seen_has_header;
 
 #[cfg(test)]
