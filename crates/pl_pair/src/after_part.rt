@@ -1,20 +1,21 @@
 //! What is left of an open request after one more completion.
 //! PCI Express Base Specification 5.0, chapter 2: a read may be answered in several completions.
-ghost use Rattle.std.specs.Prelude.{◌≡◌, IfSome};
-ghost use Rattle.pl_tlp.specs.Fields.{fields};
+ghost use Rattle.std.specs.Prelude.{◌≡◌, IfSome, true};
 ghost use Rattle.pl_tlp.specs.Fit.{Fits};
+ghost use Rattle.pl_tlp.specs.Groups.{is_completion};
 ghost use Rattle.pl_pair.specs.Pairs.{IsOpen};
 ghost use Rattle.pl_pair.specs.Parts as spec;
 
 use crate::part::{brought, has_data, is_successful};
 use crate::request::OpenRequest;
-use pl_tlp::Tlp;
+use pl_tlp::Packet;
 
 /// What an open request is after the completion at position `at`: none where this ends it.
-pub(crate) fn after_part(opened: OpenRequest, tlp: &Tlp, at: u64) -> Option<OpenRequest>
+pub(crate) fn after_part<P: Packet>(opened: OpenRequest, tlp: &P, at: u64) -> Option<OpenRequest>
+    requires completion { is_completion (P.fields tlp.now).kind ≡ true }
     requires open { IsOpen opened }
-    requires fits { Fits (fields tlp.now) }
-    ensures after { result ≡ spec.after_part opened (fields tlp.now) at }
+    requires fits { Fits (P.fields tlp.now) }
+    ensures after { result ≡ spec.after_part opened (P.fields tlp.now) at }
     ensures open { IfSome result IsOpen }
 {
     if ends(&opened, tlp) {
@@ -28,16 +29,18 @@ pub(crate) fn after_part(opened: OpenRequest, tlp: &Tlp, at: u64) -> Option<Open
 }
 
 /// Whether a completion ends its request.
-fn ends(opened: &OpenRequest, tlp: &Tlp) -> bool
+#[tactic(auto, using(pl_tlp::proofs::GroupLayouts::completion_layout))]
+fn ends<P: Packet>(opened: &OpenRequest, tlp: &P) -> bool
+    requires completion { is_completion (P.fields tlp.now).kind ≡ true }
     requires open { IsOpen opened.now }
-    requires fits { Fits (fields tlp.now) }
-    ensures { result ≡ spec.ends opened.now.request opened.now.got (fields tlp.now) }
+    requires fits { Fits (P.fields tlp.now) }
+    ensures { result ≡ spec.ends opened.now.request opened.now.got (P.fields tlp.now) }
 {
     let wanted = opened.request.wanted();
     !has_data(tlp)
         || !is_successful(tlp)
         || wanted == 0
-        || u32::from(opened.got) + u32::from(tlp.length) >= u32::from(wanted)
+        || u32::from(opened.got) + u32::from(tlp.length()) >= u32::from(wanted)
         || (opened.request.is_translation()
-            && u32::from(tlp.byte_count) <= 4 * u32::from(tlp.length))
+            && u32::from(tlp.byte_count()) <= 4 * u32::from(tlp.length()))
 }

@@ -4,7 +4,6 @@
 ghost use Rattle.std.specs.Prelude.{◌≡◌, ◌≢◌, ℕ, ◌+◌, ◌<◌, ◌≤◌, ◌++◌, [], IsTrue, true, false};
 ghost use Rattle.arrayvec.specs.ArrayVec.{array_vec_len};
 ghost use Rattle.pl_profile.specs.Ranges.{is_completion_boundary};
-ghost use Rattle.pl_tlp.specs.Fields.{fields};
 ghost use Rattle.pl_tlp.specs.Fit.{Fits};
 ghost use Rattle.pl_tlp.specs.Kinds as tlps;
 ghost use Rattle.pl_tlp.specs.Groups as kinds;
@@ -16,7 +15,7 @@ use crate::part::{has_data, is_counted, is_successful};
 use crate::request::{OpenRequest, Request};
 use pl_base::{Dir, Found, MOST_VERDICTS, Rule, add_if};
 use pl_profile::Profile;
-use pl_tlp::{Kind, Tlp};
+use pl_tlp::{Kind, Packet};
 
 /// The Read Completion Boundary of the completions that travel in direction `dir`, in bytes: 64 or
 /// 128.
@@ -48,12 +47,19 @@ struct Broken {
 ///
 /// Most completions break none, and then nothing is written.
 #[tactic(auto, unfolding(crate::specs::Rules::part_verdicts))]
-pub(crate) fn judge_part(found: &mut Found, boundary: u8, opened: &OpenRequest, tlp: &Tlp, at: u64)
+pub(crate) fn judge_part<P: Packet>(
+    found: &mut Found,
+    boundary: u8,
+    opened: &OpenRequest,
+    tlp: &P,
+    at: u64,
+)
+    requires completion { kinds.is_completion (P.fields tlp.now).kind ≡ true }
     requires room { array_vec_len found.old + MOST_OF_A_COMPLETION ≤ MOST_VERDICTS }
     requires boundary { IsTrue (is_completion_boundary boundary) }
-    requires fits { Fits (fields tlp.now) }
+    requires fits { Fits (P.fields tlp.now) }
     ensures verdicts { found.new.items
-        ≡ found.old.items ++ spec.part_verdicts boundary opened.now (fields tlp.now) at }
+        ≡ found.old.items ++ spec.part_verdicts boundary opened.now (P.fields tlp.now) at }
     ensures few { array_vec_len found.new ≤ array_vec_len found.old + MOST_OF_A_COMPLETION }
 {
     let broken = broken_by(boundary, opened, tlp);
@@ -102,18 +108,19 @@ fn hold(found: &mut Found, broken: bool, rule: Rule, opened: &OpenRequest, at: u
 }
 
 /// Which rules a completion breaks.
-fn broken_by(boundary: u8, opened: &OpenRequest, tlp: &Tlp) -> Broken
+fn broken_by<P: Packet>(boundary: u8, opened: &OpenRequest, tlp: &P) -> Broken
+    requires completion { kinds.is_completion (P.fields tlp.now).kind ≡ true }
     requires boundary { IsTrue (is_completion_boundary boundary) }
-    requires fits { Fits (fields tlp.now) }
-    ensures c3 { result.c3 ≡ spec.breaks_c3 opened.now.request (fields tlp.now) }
-    ensures c4 { result.c4 ≡ spec.breaks_c4 opened.now.request (fields tlp.now) }
-    ensures c5 { result.c5 ≡ spec.breaks_c5 opened.now.request opened.now.got (fields tlp.now) }
-    ensures c6 { result.c6 ≡ spec.breaks_c6 opened.now.request opened.now.got (fields tlp.now) }
-    ensures c7 { result.c7 ≡ spec.breaks_c7 opened.now.request opened.now.got (fields tlp.now) }
-    ensures c8 { result.c8 ≡ spec.breaks_c8 opened.now.request (fields tlp.now) }
+    requires fits { Fits (P.fields tlp.now) }
+    ensures c3 { result.c3 ≡ spec.breaks_c3 opened.now.request (P.fields tlp.now) }
+    ensures c4 { result.c4 ≡ spec.breaks_c4 opened.now.request (P.fields tlp.now) }
+    ensures c5 { result.c5 ≡ spec.breaks_c5 opened.now.request opened.now.got (P.fields tlp.now) }
+    ensures c6 { result.c6 ≡ spec.breaks_c6 opened.now.request opened.now.got (P.fields tlp.now) }
+    ensures c7 { result.c7 ≡ spec.breaks_c7 opened.now.request opened.now.got (P.fields tlp.now) }
+    ensures c8 { result.c8 ≡ spec.breaks_c8 opened.now.request (P.fields tlp.now) }
     ensures c9 { result.c9
-        ≡ spec.breaks_c9 boundary opened.now.request opened.now.got (fields tlp.now) }
-    ensures c10 { result.c10 ≡ spec.breaks_c10 opened.now.request (fields tlp.now) }
+        ≡ spec.breaks_c9 boundary opened.now.request opened.now.got (P.fields tlp.now) }
+    ensures c10 { result.c10 ≡ spec.breaks_c10 opened.now.request (P.fields tlp.now) }
 {
     let request = &opened.request;
     let counts = counts_broken_by(boundary, opened, tlp);
@@ -130,40 +137,41 @@ fn broken_by(boundary: u8, opened: &OpenRequest, tlp: &Tlp) -> Broken
 }
 
 /// C3: another Traffic Class, or other attributes Attr[1:0], than the request.
-fn breaks_c3(request: &Request, tlp: &Tlp) -> bool
-    ensures { result ≡ spec.breaks_c3 request.now (fields tlp.now) }
+fn breaks_c3<P: Packet>(request: &Request, tlp: &P) -> bool
+    ensures { result ≡ spec.breaks_c3 request.now (P.fields tlp.now) }
 {
-    tlp.tc != request.tc || tlp.attr % 4 != request.attr % 4
+    tlp.tc() != request.tc || tlp.attr() % 4 != request.attr % 4
 }
 
 /// C4: data with an unsuccessful status, none with a successful one where data were wanted, data
 /// where none were wanted, or less than an AtomicOp wants.
-fn breaks_c4(request: &Request, tlp: &Tlp) -> bool
-    requires { Fits (fields tlp.now) }
-    ensures { result ≡ spec.breaks_c4 request.now (fields tlp.now) }
+fn breaks_c4<P: Packet>(request: &Request, tlp: &P) -> bool
+    requires completion { kinds.is_completion (P.fields tlp.now).kind ≡ true }
+    requires fits { Fits (P.fields tlp.now) }
+    ensures { result ≡ spec.breaks_c4 request.now (P.fields tlp.now) }
 {
     let wanted = request.wanted();
     if has_data(tlp) {
-        !is_successful(tlp) || wanted == 0 || (request.kind.is_atomic() && tlp.length < wanted)
+        !is_successful(tlp) || wanted == 0 || (request.kind.is_atomic() && tlp.length() < wanted)
     } else {
         is_successful(tlp) && wanted != 0
     }
 }
 
 /// C5: more data than were wanted.
-fn breaks_c5(opened: &OpenRequest, tlp: &Tlp) -> bool
-    requires { Fits (fields tlp.now) }
-    ensures { result ≡ spec.breaks_c5 opened.now.request opened.now.got (fields tlp.now) }
+fn breaks_c5<P: Packet>(opened: &OpenRequest, tlp: &P) -> bool
+    requires { Fits (P.fields tlp.now) }
+    ensures { result ≡ spec.breaks_c5 opened.now.request opened.now.got (P.fields tlp.now) }
 {
     let wanted = opened.request.wanted();
     has_data(tlp) && wanted != 0 && reached(opened, tlp) > u32::from(wanted)
 }
 
 /// How many DW its completions bring with this one, where it has data.
-fn reached(opened: &OpenRequest, tlp: &Tlp) -> u32
-    ensures { result ≡ opened.now.got + tlp.now.length }
+fn reached<P: Packet>(opened: &OpenRequest, tlp: &P) -> u32
+    ensures { result ≡ opened.now.got + (P.fields tlp.now).length }
 {
-    u32::from(opened.got) + u32::from(tlp.length)
+    u32::from(opened.got) + u32::from(tlp.length())
 }
 
 /// Which of the rules C6, C7 and C9 a completion breaks, which look at what is counted.
@@ -183,13 +191,15 @@ const NONE: Counts = Counts {
 
 /// Which of C6, C7 and C9 it breaks. Those that can't apply to its status and its request aren't
 /// tried.
-fn counts_broken_by(boundary: u8, opened: &OpenRequest, tlp: &Tlp) -> Counts
+#[tactic(auto, using(pl_tlp::proofs::GroupLayouts::completion_layout))]
+fn counts_broken_by<P: Packet>(boundary: u8, opened: &OpenRequest, tlp: &P) -> Counts
+    requires completion { kinds.is_completion (P.fields tlp.now).kind ≡ true }
     requires boundary { IsTrue (is_completion_boundary boundary) }
-    requires fits { Fits (fields tlp.now) }
-    ensures c6 { result.c6 ≡ spec.breaks_c6 opened.now.request opened.now.got (fields tlp.now) }
-    ensures c7 { result.c7 ≡ spec.breaks_c7 opened.now.request opened.now.got (fields tlp.now) }
+    requires fits { Fits (P.fields tlp.now) }
+    ensures c6 { result.c6 ≡ spec.breaks_c6 opened.now.request opened.now.got (P.fields tlp.now) }
+    ensures c7 { result.c7 ≡ spec.breaks_c7 opened.now.request opened.now.got (P.fields tlp.now) }
     ensures c9 { result.c9
-        ≡ spec.breaks_c9 boundary opened.now.request opened.now.got (fields tlp.now) }
+        ≡ spec.breaks_c9 boundary opened.now.request opened.now.got (P.fields tlp.now) }
 {
     let request = &opened.request;
     if !is_counted(request, tlp) {
@@ -201,20 +211,20 @@ fn counts_broken_by(boundary: u8, opened: &OpenRequest, tlp: &Tlp) -> Counts
                 return NONE;
             }
             Counts {
-                c6: !tlp.bcm && u32::from(tlp.byte_count) != request.remaining(opened.got),
-                c7: u32::from(tlp.lower) != request.lower_address(opened.got),
+                c6: !tlp.bcm() && u32::from(tlp.byte_count()) != request.remaining(opened.got),
+                c7: u32::from(tlp.lower()) != request.lower_address(opened.got),
                 c9: ends_amiss(boundary, opened, tlp),
             }
         }
         Kind::IORd | Kind::IOWr | Kind::CfgRd0 | Kind::CfgWr0 | Kind::CfgRd1 | Kind::CfgWr1 => {
             Counts {
-                c6: !tlp.bcm && tlp.byte_count != 4,
-                c7: tlp.lower != 0,
+                c6: !tlp.bcm() && tlp.byte_count() != 4,
+                c7: tlp.lower() != 0,
                 c9: false,
             }
         }
         Kind::FetchAdd | Kind::Swap | Kind::Cas => Counts {
-            c6: !tlp.bcm && u32::from(tlp.byte_count) != 4 * u32::from(request.wanted()),
+            c6: !tlp.bcm() && u32::from(tlp.byte_count()) != 4 * u32::from(request.wanted()),
             c7: false,
             c9: false,
         },
@@ -226,12 +236,13 @@ fn counts_broken_by(boundary: u8, opened: &OpenRequest, tlp: &Tlp) -> Counts
 
 /// Whether a completion with data of a memory read isn't the last one, and ends elsewhere than at a
 /// multiple of the Read Completion Boundary.
-fn ends_amiss(boundary: u8, opened: &OpenRequest, tlp: &Tlp) -> bool
-    requires counted { spec.is_counted opened.now.request (fields tlp.now) ≡ true }
+fn ends_amiss<P: Packet>(boundary: u8, opened: &OpenRequest, tlp: &P) -> bool
+    requires counted { spec.is_counted opened.now.request (P.fields tlp.now) ≡ true }
     requires read { kinds.is_memory_read opened.now.request.kind ≡ true }
-    requires carries { tlps.has_data tlp.now.kind ≡ true }
+    requires carries { tlps.has_data (P.fields tlp.now).kind ≡ true }
     requires boundary { IsTrue (is_completion_boundary boundary) }
-    ensures { result ≡ spec.breaks_c9 boundary opened.now.request opened.now.got (fields tlp.now) }
+    ensures { result
+        ≡ spec.breaks_c9 boundary opened.now.request opened.now.got (P.fields tlp.now) }
 {
     let reached = reached(opened, tlp);
     if reached >= u32::from(opened.request.wanted()) {
@@ -242,19 +253,21 @@ fn ends_amiss(boundary: u8, opened: &OpenRequest, tlp: &Tlp) -> bool
 }
 
 /// C8: Configuration Request Retry Status for another request.
-fn breaks_c8(request: &Request, tlp: &Tlp) -> bool
-    ensures { result ≡ spec.breaks_c8 request.now (fields tlp.now) }
+#[tactic(auto, using(pl_tlp::proofs::GroupLayouts::completion_layout))]
+fn breaks_c8<P: Packet>(request: &Request, tlp: &P) -> bool
+    requires { kinds.is_completion (P.fields tlp.now).kind ≡ true }
+    ensures { result ≡ spec.breaks_c8 request.now (P.fields tlp.now) }
 {
-    tlp.status == 2 && !request.kind.is_configuration_request()
+    tlp.status() == 2 && !request.kind.is_configuration_request()
 }
 
 /// C10: a completion of a locked read for another request, or the other way round.
-fn breaks_c10(request: &Request, tlp: &Tlp) -> bool
-    ensures { result ≡ spec.breaks_c10 request.now (fields tlp.now) }
+fn breaks_c10<P: Packet>(request: &Request, tlp: &P) -> bool
+    ensures { result ≡ spec.breaks_c10 request.now (P.fields tlp.now) }
 {
     if request.kind.is_locked_read() {
-        tlp.kind.is_plain_completion_with_data()
+        tlp.kind().is_plain_completion_with_data()
     } else {
-        tlp.kind.is_locked_completion()
+        tlp.kind().is_locked_completion()
     }
 }

@@ -4,7 +4,6 @@ ghost use Rattle.std.specs.Prelude.{◌≡◌, ◌+◌, ◌≤◌, ◌↔◌, Li
 ghost use Rattle.std.specs.Prelude.{IsTrue, true};
 ghost use Rattle.std.specs.FinMap as map;
 ghost use Rattle.arrayvec.specs.ArrayVec.{array_vec_len};
-ghost use Rattle.pl_tlp.specs.Fields.{fields};
 ghost use Rattle.pl_tlp.specs.Fit.{Fits};
 ghost use Rattle.pl_index.specs.Table.{entries, limit, LacksRoomFor};
 ghost use Rattle.pl_profile.specs.declared.profile.Profile.{Profile};
@@ -22,7 +21,7 @@ use crate::transaction::TransactionId;
 use pl_base::{Dir, Found, MOST_VERDICTS, Rule, add_if};
 use pl_index::Table;
 use pl_profile::Profile;
-use pl_tlp::Tlp;
+use pl_tlp::Packet;
 use std::alloc::{AllocError, Global};
 use std::marker::Model;
 
@@ -122,17 +121,17 @@ impl Pairs {
     /// Whether there is no room for this TLP: a request that needs a completion and would be open
     /// beside as many others as there is room for. A request whose transaction ID is in use takes
     /// the place of the open one.
-    pub fn full_for(&self, dir: Dir, tlp: &Tlp) -> bool
-        requires { Fits (fields tlp.now) }
+    pub fn full_for<P: Packet>(&self, dir: Dir, tlp: &P) -> bool
+        requires { Fits (P.fields tlp.now) }
         ensures now { IsTrue result
-            ↔ ((kinds.needs_completion tlp.now.kind ≡ true)
-            × LacksRoomFor self.now.table (key_of (request_id dir (fields tlp.now)))) }
+            ↔ ((kinds.needs_completion (P.fields tlp.now).kind ≡ true)
+            × LacksRoomFor self.now.table (key_of (request_id dir (P.fields tlp.now)))) }
         ensures past { (past : List Event) → StandsFor self.now past → (IsTrue result ↔
-            ((kinds.needs_completion tlp.now.kind ≡ true)
-            × (open_request (request_id dir (fields tlp.now)) past ≡ None)
+            ((kinds.needs_completion (P.fields tlp.now).kind ≡ true)
+            × (open_request (request_id dir (P.fields tlp.now)) past ≡ None)
             × (outstanding past ≡ limit self.now.table))) }
     {
-        if !tlp.kind.needs_completion() || self.table.len() < self.room {
+        if !tlp.kind().needs_completion() || self.table.len() < self.room {
             return false;
         }
         let id = TransactionId::of_request(dir, tlp);
@@ -147,14 +146,15 @@ impl Pairs {
     /// the run of its sequence number, which doesn't begin with it. Another takes no place.
     ///
     /// There is room: see `full_for`.
-    pub fn request(&mut self, dir: Dir, tlp: &Tlp, at: u64) -> Found
-        requires needs { kinds.needs_completion tlp.now.kind ≡ true }
-        requires fits { Fits (fields tlp.now) }
-        requires room { LacksRoomFor self.old.table (key_of (request_id dir (fields tlp.now))) → ⊥ }
+    pub fn request<P: Packet>(&mut self, dir: Dir, tlp: &P, at: u64) -> Found
+        requires needs { kinds.needs_completion (P.fields tlp.now).kind ≡ true }
+        requires fits { Fits (P.fields tlp.now) }
+        requires room { LacksRoomFor self.old.table
+            (key_of (request_id dir (P.fields tlp.now))) → ⊥ }
         ensures verdicts { (past : List Event) (profile : Profile) → StandsFor self.old past
-            → result.items ≡ pair_verdicts profile past (Request dir (fields tlp.now) at) }
+            → result.items ≡ pair_verdicts profile past (Request dir (P.fields tlp.now) at) }
         ensures stands { (past : List Event) → StandsFor self.old past
-            → StandsFor self.new (Request dir (fields tlp.now) at ∷ past) }
+            → StandsFor self.new (Request dir (P.fields tlp.now) at ∷ past) }
         ensures few { array_vec_len result ≤ 1 }
         ensures room { limit self.new.table ≡ limit self.old.table }
     {
@@ -165,16 +165,17 @@ impl Pairs {
 
     /// As [`Pairs::request`], with the verdict behind those that were found before.
     #[tactic(auto, unfolding(crate::specs::Rules::pair_verdicts))]
-    pub fn request_into(&mut self, dir: Dir, tlp: &Tlp, at: u64, found: &mut Found)
-        requires needs { kinds.needs_completion tlp.now.kind ≡ true }
-        requires fits { Fits (fields tlp.now) }
-        requires room { LacksRoomFor self.old.table (key_of (request_id dir (fields tlp.now))) → ⊥ }
+    pub fn request_into<P: Packet>(&mut self, dir: Dir, tlp: &P, at: u64, found: &mut Found)
+        requires needs { kinds.needs_completion (P.fields tlp.now).kind ≡ true }
+        requires fits { Fits (P.fields tlp.now) }
+        requires room { LacksRoomFor self.old.table
+            (key_of (request_id dir (P.fields tlp.now))) → ⊥ }
         requires few { array_vec_len found.old + 1 ≤ MOST_VERDICTS }
         ensures verdicts { (past : List Event) (profile : Profile) → StandsFor self.old past
             → found.new.items
-            ≡ found.old.items ++ pair_verdicts profile past (Request dir (fields tlp.now) at) }
+            ≡ found.old.items ++ pair_verdicts profile past (Request dir (P.fields tlp.now) at) }
         ensures stands { (past : List Event) → StandsFor self.old past
-            → StandsFor self.new (Request dir (fields tlp.now) at ∷ past) }
+            → StandsFor self.new (Request dir (P.fields tlp.now) at ∷ past) }
         ensures few { array_vec_len found.new ≤ array_vec_len found.old + 1 }
         ensures room { limit self.new.table ≡ limit self.old.table }
     {
@@ -193,13 +194,13 @@ impl Pairs {
     /// A completion travels in direction `dir`, at position `at`: what it breaks of C3 to C10, or
     /// where it names no open request C1 alone, and in a torn span nothing. From then on the pairs
     /// stand for the history with it.
-    pub fn completion(&mut self, profile: &Profile, dir: Dir, tlp: &Tlp, at: u64) -> Found
-        requires is { kinds.is_completion tlp.now.kind ≡ true }
-        requires fits { Fits (fields tlp.now) }
+    pub fn completion<P: Packet>(&mut self, profile: &Profile, dir: Dir, tlp: &P, at: u64) -> Found
+        requires is { kinds.is_completion (P.fields tlp.now).kind ≡ true }
+        requires fits { Fits (P.fields tlp.now) }
         ensures verdicts { (past : List Event) → StandsFor self.old past
-            → result.items ≡ pair_verdicts profile.now past (Completion dir (fields tlp.now) at) }
+            → result.items ≡ pair_verdicts profile.now past (Completion dir (P.fields tlp.now) at) }
         ensures stands { (past : List Event) → StandsFor self.old past
-            → StandsFor self.new (Completion dir (fields tlp.now) at ∷ past) }
+            → StandsFor self.new (Completion dir (P.fields tlp.now) at ∷ past) }
         ensures few { array_vec_len result ≤ MOST_OF_A_COMPLETION }
         ensures room { limit self.new.table ≡ limit self.old.table }
     {
@@ -210,23 +211,23 @@ impl Pairs {
 
     /// As [`Pairs::completion`], with the verdicts behind those that were found before.
     #[tactic(auto, unfolding(crate::specs::Rules::pair_verdicts))]
-    pub fn completion_into(
+    pub fn completion_into<P: Packet>(
         &mut self,
         profile: &Profile,
         dir: Dir,
-        tlp: &Tlp,
+        tlp: &P,
         at: u64,
         found: &mut Found,
     )
-        requires is { kinds.is_completion tlp.now.kind ≡ true }
-        requires fits { Fits (fields tlp.now) }
+        requires is { kinds.is_completion (P.fields tlp.now).kind ≡ true }
+        requires fits { Fits (P.fields tlp.now) }
         requires few { array_vec_len found.old + MOST_OF_A_COMPLETION ≤ MOST_VERDICTS }
         ensures verdicts { (past : List Event) → StandsFor self.old past
             → found.new.items
             ≡ found.old.items
-            ++ pair_verdicts profile.now past (Completion dir (fields tlp.now) at) }
+            ++ pair_verdicts profile.now past (Completion dir (P.fields tlp.now) at) }
         ensures stands { (past : List Event) → StandsFor self.old past
-            → StandsFor self.new (Completion dir (fields tlp.now) at ∷ past) }
+            → StandsFor self.new (Completion dir (P.fields tlp.now) at ∷ past) }
         ensures few { array_vec_len found.new ≤ array_vec_len found.old + MOST_OF_A_COMPLETION }
         ensures room { limit self.new.table ≡ limit self.old.table }
     {

@@ -1,29 +1,31 @@
 //! What a request asks for.
 //! PCI Express Base Specification 5.0, chapter 2: byte enables, AtomicOps, and the Byte Count of
 //! completions.
-ghost use Rattle.std.specs.Prelude.{◌≡◌, ◌<◌, ◌≤◌, ◌+◌, ◌^◌};
-ghost use Rattle.pl_tlp.specs.Fields.{fields};
+ghost use Rattle.std.specs.Prelude.{◌≡◌, ◌<◌, ◌≤◌, ◌+◌, ◌^◌, true};
+ghost use Rattle.pl_tlp.specs.Groups.{needs_completion};
 ghost use Rattle.pl_pair.specs.Requested as spec;
 ghost use Rattle.pl_pair.specs.Parts.{is_translation, remaining};
 ghost use Rattle.pl_pair.specs.Rules.{lower_address};
 
 use crate::request::Request;
-use pl_tlp::{Kind, Tlp};
+use pl_tlp::{Kind, Packet};
 
 /// The fields of a request that its completions are held against.
-pub(crate) fn request_of(tlp: &Tlp) -> Request
-    ensures { result ≡ spec.request_of (fields tlp.now) }
+#[tactic(auto, using(pl_tlp::proofs::GroupLayouts::request_access))]
+pub(crate) fn request_of<P: Packet>(tlp: &P) -> Request
+    requires { needs_completion (P.fields tlp.now).kind ≡ true }
+    ensures { result ≡ spec.request_of (P.fields tlp.now) }
 {
     Request {
-        kind: tlp.kind,
-        tc: tlp.tc,
-        attr: tlp.attr,
-        at: tlp.at,
-        th: tlp.th,
-        length: tlp.length,
-        first_be: tlp.first_be,
-        last_be: tlp.last_be,
-        address: tlp.address,
+        kind: tlp.kind(),
+        tc: tlp.tc(),
+        attr: tlp.attr(),
+        at: tlp.at(),
+        th: tlp.th(),
+        length: tlp.length(),
+        first_be: tlp.first_be(),
+        last_be: tlp.last_be(),
+        address: tlp.address(),
     }
 }
 

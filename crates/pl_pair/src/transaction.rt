@@ -1,13 +1,12 @@
 //! Transaction IDs.
 //! PCI Express Base Specification 5.0, chapter 2: transaction descriptor, transaction ID field.
 ghost use Rattle.std.specs.Prelude.{◌≡◌};
-ghost use Rattle.pl_tlp.specs.Fields.{fields};
 ghost use Rattle.pl_tlp.specs.Fit.{Fits};
 ghost use Rattle.pl_pair.specs.History.{answered_id, request_id};
 ghost use Rattle.pl_pair.specs.Pairs.{IsInRange, key_of};
 
 use pl_base::Dir;
-use pl_tlp::Tlp;
+use pl_tlp::Packet;
 
 /// The direction of a request, its Requester ID and its Tag of ten bits.
 #[derive(Clone, Copy, Debug, PartialEq, Eq)]
@@ -19,28 +18,28 @@ pub struct TransactionId {
 
 impl TransactionId {
     /// The transaction ID of a request that travels in direction `dir`.
-    pub(crate) fn of_request(dir: Dir, tlp: &Tlp) -> TransactionId
-        requires fits { Fits (fields tlp.now) }
-        ensures id { result ≡ request_id dir (fields tlp.now) }
+    pub(crate) fn of_request<P: Packet>(dir: Dir, tlp: &P) -> TransactionId
+        requires fits { Fits (P.fields tlp.now) }
+        ensures id { result ≡ request_id dir (P.fields tlp.now) }
         ensures range { IsInRange result }
     {
         TransactionId {
             dir,
-            requester: tlp.requester,
-            tag: tlp.tag,
+            requester: tlp.requester(),
+            tag: tlp.tag(),
         }
     }
 
     /// The transaction ID of the request that a completion names which travels in direction `dir`.
-    pub(crate) fn answered(dir: Dir, tlp: &Tlp) -> TransactionId
-        requires fits { Fits (fields tlp.now) }
-        ensures id { result ≡ answered_id dir (fields tlp.now) }
+    pub(crate) fn answered<P: Packet>(dir: Dir, tlp: &P) -> TransactionId
+        requires fits { Fits (P.fields tlp.now) }
+        ensures id { result ≡ answered_id dir (P.fields tlp.now) }
         ensures range { IsInRange result }
     {
         TransactionId {
             dir: dir.opposite(),
-            requester: tlp.requester,
-            tag: tlp.tag,
+            requester: tlp.requester(),
+            tag: tlp.tag(),
         }
     }
 

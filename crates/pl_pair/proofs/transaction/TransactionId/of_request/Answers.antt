@@ -4,7 +4,8 @@ use Rattle.pl_tlp.proofs.FirstDw.{tag_small}
 use Rattle.pl_pair.proofs.transaction.TransactionId.of_request.Goals as goal
 
 pub returns-clause-range : goal.returns-clause-range
-returns-clause-range c = record {
+returns-clause-range g c = record {
   requester = omega arith;
-  tag = tag_small (layout_of c.args.tlp.now.kind) c.args.tlp.now.tag c.requires.fits.layout.tag;
+  tag = rw c.tag.ensures
+      (tag_small (layout_of (g.P.Packet.fields c.args.tlp.now).kind) (g.P.Packet.fields c.args.tlp.now).tag c.requires.fits.layout.tag);
 }
