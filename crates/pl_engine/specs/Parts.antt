@@ -1,5 +1,5 @@
 -- When the parts stand for a history, and what they can take.
-use Rattle.std.specs.Prelude.{Bool, ◌≡◌, ℕ, true, List, Option, Some, None}
+use Rattle.std.specs.Prelude.{Bool, ◌≡◌, ℕ, true, List}
 use Rattle.pl_base.specs.declared.link.Dir.{Dir}
 use Rattle.pl_capture.specs.Entry.{Entry}
 use Rattle.pl_tlp.specs.Fields.{Fields}
@@ -28,7 +28,3 @@ pub record IsReady (profile : Profile) (at : ℕ) (parts : Parts) : Type 0 where
 pub record IsTakable (pairs : pair.Kept) (dir : Dir) (sure : Bool) (fields : Fields) : Type 0 where
   pub room : sure ≡ true → needs_completion fields.kind ≡ true
       → pair.LacksRoom pairs (request_id dir fields) → ⊥
-
-abbrev pub IsTakableIfWhole : pair.Kept → Dir → Bool → Option Fields → Type 0
-IsTakableIfWhole pairs dir sure None = Unit {0}
-IsTakableIfWhole pairs dir sure (Some fields) = IsTakable pairs dir sure fields

@@ -1,32 +1,24 @@
 //! The parts that the rules look at: each hears its events of the items, one after another.
-ghost use Rattle.std.specs.Prelude.{ℕ, ◌≡◌, ◌+◌, ◌≤◌, ◌∷◌, [], List, IfOk, OnErr, true};
+ghost use Rattle.std.specs.Prelude.{ℕ, ◌≡◌, ◌+◌, ◌≤◌, ◌∷◌, [], List, IfOk, OnErr};
 ghost use Rattle.arrayvec.specs.ArrayVec.{array_vec_len};
 ghost use Rattle.pl_capture.specs.Entry.{Entry, view as entry, IsLawful};
-ghost use Rattle.pl_seq.specs.History.{is_taken};
-ghost use Rattle.pl_seq.specs.Runs.{place_of};
 ghost use Rattle.pl_engine.specs.Events.{number_after};
 ghost use Rattle.pl_engine.specs.Judges.{Arrived, IsJudged, Judges};
-ghost use Rattle.pl_engine.specs.Lanes.{lane_in};
-ghost use Rattle.pl_engine.specs.Packets.{sequence_number};
-ghost use Rattle.pl_engine.specs.State.{state_of};
 ghost use Rattle.pl_profile.specs.declared.profile.Profile.{Profile};
 
 use crate::arrival::Arrival;
-use crate::flow::{hear, spend};
+use crate::flow::hear;
 use crate::lanes::Lanes;
-use crate::packet::{dllp_of, tlp_of};
+use crate::packet::dllp_of;
 use crate::refused::Refused;
 use crate::state::body;
-use crate::transactions::{refusal, transact};
-use pl_base::{Body, Found, Rule, add_if};
+use pl_base::{Found, Rule, add_if};
 use pl_capture::{Item, ItemKind};
 use pl_credit::Credits;
 use pl_dllp::Decoded;
-use pl_form::{MOST_OF_A_TLP, judge_into};
+use pl_form::MOST_OF_A_TLP;
 use pl_pair::{MOST_OF_A_COMPLETION, Pairs};
 use pl_profile::Profile;
-use pl_seq::Place;
-use pl_tlp::view;
 use std::alloc::{AllocError, Global};
 
 /// The most rules that an item breaks: S4 of its lane, those of the credits, of its formation and
@@ -128,47 +120,6 @@ impl Parts {
         }
         self.lanes.tlp(item, arrived, at, found);
         Ok(Arrival::Tlp(arrived, place))
-    }
-
-    /// A TLP that its receiver takes, unless there is no room for it.
-    #[tactic(auto, unfolding(crate::specs::Verdicts::verdicts_at, crate::specs::Verdicts::blocked))]
-    fn take(
-        &mut self,
-        profile: &Profile,
-        item: &Item,
-        arrived: Body,
-        place: Place,
-        at: u64,
-        found: &mut Found,
-    ) -> Result<(), Refused>
-        requires kind { item.now.kind ≡ ItemKind.Tlp }
-        requires lawful { IsLawful (entry item.now) }
-        requires arrived { arrived ≡ state_of (entry item.now) }
-        requires place { place ≡ place_of (lane_in item.now.dir self.old.lanes).run
-            (sequence_number item.now.body.now) arrived }
-        requires taken { is_taken place ≡ true }
-        requires ready { IsReady profile.now at self.old }
-        requires none { found.old.items ≡ [] }
-        ensures judges { (past : List Entry) → PartsStandFor profile.now self.old past →
-            at ≡ number_after past →
-            Judges profile.now past (entry item.now) self.new result found.new.items }
-        ensures refused { OnErr result ((self.new ≡ self.old) × (found.new ≡ found.old)) }
-        ensures ready { IsReady profile.now (at + 1) self.new }
-        ensures most { array_vec_len found.new ≤ MOST_OF_AN_ITEM }
-    {
-        if self.lanes.is_full_for(place, item.dir) {
-            return Err(Refused::Unacknowledged(profile.unacknowledged));
-        }
-        let sure = self.lanes.is_sure(place, item.dir);
-        let packet = view(tlp_of(item.body));
-        if let Some(refused) = refusal(&self.pairs, profile, item.dir, sure, &packet) {
-            return Err(refused);
-        }
-        self.lanes.tlp(item, arrived, at, found);
-        spend(&mut self.credits, profile, item.dir, &packet, at, found);
-        judge_into(profile, item.dir, &packet, at, found);
-        transact(&mut self.pairs, profile, item.dir, sure, &packet, at, found);
-        Ok(())
     }
 
     /// A DLLP.
