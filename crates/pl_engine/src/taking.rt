@@ -62,11 +62,14 @@ impl Parts {
             return Err(Refused::Unacknowledged(profile.unacknowledged));
         }
         let sure = self.lanes.is_sure(place, item.dir);
-        let seen = see(tlp_of(item.body));
-        match &seen {
-            Seen::Whole(tlp) => self.take_whole(profile, item, arrived, sure, tlp, at, found),
-            Seen::Undefined | Seen::WrongSize => {
-                self.take_unread(profile, item, arrived, &seen, at, found);
+        match see(tlp_of(item.body)) {
+            Seen::Whole(tlp) => self.take_whole(profile, item, arrived, sure, &tlp, at, found),
+            Seen::Undefined => {
+                self.take_unread(profile, item, arrived, Seen::Undefined, at, found);
+                Ok(())
+            }
+            Seen::WrongSize => {
+                self.take_unread(profile, item, arrived, Seen::WrongSize, at, found);
                 Ok(())
             }
         }
@@ -108,31 +111,32 @@ impl Parts {
     }
 
     /// A TLP that isn't well-formed, for which its lane has a slot: neither credits nor pairs hear
-    /// of it.
+    /// of it. Apart and by value, since few TLPs are such.
+    #[inline(never)]
     fn take_unread(
         &mut self,
         profile: &Profile,
         item: &Item,
         arrived: Body,
-        seen: &Seen,
+        seen: Seen,
         at: u64,
         found: &mut Found,
     )
         requires slot { HasSlot self.old.lanes (entry item.now) arrived }
-        requires unread { if_whole (seen_outcome seen.now) ≡ None }
-        requires fits { FitsIfWhole (seen_outcome seen.now) }
-        requires header { HasHeaderIfWhole (seen_outcome seen.now) }
+        requires unread { if_whole (seen_outcome seen) ≡ None }
+        requires fits { FitsIfWhole (seen_outcome seen) }
+        requires header { HasHeaderIfWhole (seen_outcome seen) }
         requires ready { IsReady profile.now at self.old }
         requires none { found.old.items ≡ [] }
         ensures judged { (past : List Entry) (sure : Bool) →
             PartsStandFor profile.now self.old past →
             at ≡ number_after past →
-            IsTakenAs profile.now past (entry item.now) (seen_outcome seen.now) sure →
+            IsTakenAs profile.now past (entry item.now) (seen_outcome seen.entry) sure →
             IsJudged profile.now past (entry item.now) self.new found.new.items }
         ensures ready { IsReady profile.now (at + 1) self.new }
         ensures most { array_vec_len found.new ≤ MOST_OF_AN_ITEM }
     {
         self.lanes.tlp(item, arrived, at, found);
-        judge_seen_into(profile, item.dir, seen, at, found);
+        judge_seen_into(profile, item.dir, &seen, at, found);
     }
 }

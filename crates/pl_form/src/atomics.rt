@@ -13,36 +13,39 @@ use pl_base::{Dir, Found, MOST_VERDICTS, Rule, add_if};
 use pl_profile::Profile;
 use pl_tlp::Packet;
 
-/// Adds what an AtomicOp breaks of M3 to M8: M3 and M6.
+/// Adds what an AtomicOp breaks of M3 to M8: M3 and M6. Apart and by value, since few TLPs are
+/// AtomicOps.
+#[inline(never)]
 pub(crate) fn judge_operands<P: Packet>(
     profile: &Profile,
     dir: Dir,
-    tlp: &P,
+    tlp: P,
     at: u64,
     found: &mut Found,
 )
-    requires kind { spec_kinds.is_atomic (P.fields tlp.now).kind ≡ true }
+    requires kind { spec_kinds.is_atomic (P.fields tlp).kind ≡ true }
     requires room { array_vec_len found.old + 2 ≤ MOST_VERDICTS }
     ensures items { found.new.items
         ≡ found.old.items
-        ++ (verdict_if (is_too_long profile.now dir (P.fields tlp.now)) Rule.M3 at None None
-        ++ verdict_if (breaks_m6 (P.fields tlp.now)) Rule.M6 at None None) }
+        ++ (verdict_if (is_too_long profile.now dir (P.fields tlp)) Rule.M3 at None None
+        ++ verdict_if (breaks_m6 (P.fields tlp)) Rule.M6 at None None) }
     ensures most { array_vec_len found.new ≤ array_vec_len found.old + 2 }
 {
-    let too_long = is_too_long(profile, dir, tlp);
+    let too_long = is_too_long(profile, dir, &tlp);
     add_if(found, too_long, Rule::M3, at, None, None);
-    add_if(found, breaks_m6(tlp), Rule::M6, at, None, None);
+    add_if(found, breaks_m6(&tlp), Rule::M6, at, None, None);
 }
 
-/// Adds what a TLP breaks of M11 and M12.
+/// Adds what a TLP breaks of M11 and M12. Apart and by value, as the others of AtomicOps.
+#[inline(never)]
 #[tactic(auto, unfolding(crate::specs::Verdicts::atomic_verdicts))]
-pub(crate) fn judge_atomic<P: Packet>(tlp: &P, at: u64, found: &mut Found)
+pub(crate) fn judge_atomic<P: Packet>(tlp: P, at: u64, found: &mut Found)
     requires { array_vec_len found.old + 2 ≤ MOST_VERDICTS }
-    ensures items { found.new.items ≡ found.old.items ++ atomic_verdicts (P.fields tlp.now) at }
+    ensures items { found.new.items ≡ found.old.items ++ atomic_verdicts (P.fields tlp) at }
     ensures most { array_vec_len found.new ≤ array_vec_len found.old + 2 }
 {
-    add_if(found, breaks_m11(tlp), Rule::M11, at, None, None);
-    add_if(found, breaks_m12(tlp), Rule::M12, at, None, None);
+    add_if(found, breaks_m11(&tlp), Rule::M11, at, None, None);
+    add_if(found, breaks_m12(&tlp), Rule::M12, at, None, None);
 }
 
 /// M11: an AtomicOp whose Length is that of no operand.

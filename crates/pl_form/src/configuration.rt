@@ -10,16 +10,17 @@ ghost use Rattle.pl_form.specs.Verdicts.{configuration_verdicts};
 use pl_base::{Dir, Found, MOST_VERDICTS, Rule, add_if};
 use pl_tlp::Packet;
 
-/// Adds what a TLP breaks of M9 and M10.
+/// Adds what a TLP breaks of M9 and M10. Apart and by value, since few TLPs are such requests.
+#[inline(never)]
 #[tactic(auto, unfolding(crate::specs::Verdicts::configuration_verdicts))]
-pub(crate) fn judge_configuration<P: Packet>(dir: Dir, tlp: &P, at: u64, found: &mut Found)
+pub(crate) fn judge_configuration<P: Packet>(dir: Dir, tlp: P, at: u64, found: &mut Found)
     requires { array_vec_len found.old + 2 ≤ MOST_VERDICTS }
     ensures items { found.new.items
-        ≡ found.old.items ++ configuration_verdicts dir (P.fields tlp.now) at }
+        ≡ found.old.items ++ configuration_verdicts dir (P.fields tlp) at }
     ensures most { array_vec_len found.new ≤ array_vec_len found.old + 2 }
 {
-    add_if(found, breaks_m9(tlp), Rule::M9, at, None, None);
-    add_if(found, breaks_m10(dir, tlp), Rule::M10, at, None, None);
+    add_if(found, breaks_m9(&tlp), Rule::M9, at, None, None);
+    add_if(found, breaks_m10(dir, &tlp), Rule::M10, at, None, None);
 }
 
 /// M9: an I/O or Configuration request with another value in a fixed field.

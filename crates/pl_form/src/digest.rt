@@ -14,18 +14,18 @@ pub(crate) fn breaks_m18<P: Packet>(tlp: &P) -> bool
     ensures { result ≡ spec.breaks_m18 (P.fields tlp.now) }
 {
     match &tlp.digest() {
-        Some(digest) => is_wrong(digest, tlp),
+        Some(digest) => is_wrong(digest, *tlp),
         None => false,
     }
 }
 
-/// Whether a digest isn't the ECRC. Apart, since few TLPs have one.
+/// Whether a digest isn't the ECRC. Apart and by value, since few TLPs have one.
 #[inline(never)]
-fn is_wrong<P: Packet>(digest: &[u8; 4], tlp: &P) -> bool
-    requires { 12 ≤ length (P.fields tlp.now).header }
-    ensures { result ≡ spec.is_wrong_digest (Some digest.now) (spec.ecrc_of (P.fields tlp.now)) }
+fn is_wrong<P: Packet>(digest: &[u8; 4], tlp: P) -> bool
+    requires { 12 ≤ length (P.fields tlp).header }
+    ensures { result ≡ spec.is_wrong_digest (Some digest.now) (spec.ecrc_of (P.fields tlp)) }
 {
-    digest.as_slice() != ecrc(tlp).as_slice()
+    digest.as_slice() != ecrc(&tlp).as_slice()
 }
 
 /// The ECRC over the End-End prefixes, the header with its two variant bits taken as 1, and the

@@ -117,19 +117,19 @@ fn judge_kind<P: Packet>(profile: &Profile, dir: Dir, tlp: &P, at: u64, found: &
 {
     match tlp.kind() {
         Kind::MRd | Kind::MRdLk | Kind::MWr => judge_memory(profile, dir, tlp, at, found),
-        Kind::IORd | Kind::IOWr => judge_configuration(dir, tlp, at, found),
+        Kind::IORd | Kind::IOWr => judge_configuration(dir, *tlp, at, found),
         Kind::CfgRd0 | Kind::CfgWr0 | Kind::CfgRd1 | Kind::CfgWr1 => {
-            judge_configuration(dir, tlp, at, found)
+            judge_configuration(dir, *tlp, at, found)
         }
         Kind::FetchAdd | Kind::Swap | Kind::Cas => {
-            judge_operands(profile, dir, tlp, at, found);
-            judge_atomic(tlp, at, found);
+            judge_operands(profile, dir, *tlp, at, found);
+            judge_atomic(*tlp, at, found);
         }
-        Kind::Msg => judge_message(dir, tlp, at, found),
+        Kind::Msg => judge_message(dir, *tlp, at, found),
         Kind::MsgD => {
             let too_long = is_too_long(profile, dir, tlp);
             add_if(found, too_long, Rule::M3, at, None, None);
-            judge_message(dir, tlp, at, found);
+            judge_message(dir, *tlp, at, found);
         }
         Kind::Cpl | Kind::CplD | Kind::CplLk | Kind::CplDLk => {}
     }

@@ -11,26 +11,28 @@ use pl_base::{Dir, Found, MOST_VERDICTS, Rule, add_if};
 use pl_tlp::Packet;
 
 /// Adds what a TLP breaks of M13 to M15. A message whose code isn't listed breaks none of them.
+/// Apart and by value, since few TLPs are messages.
+#[inline(never)]
 #[rattlefmt::skip]
 #[tactic(auto,
     unfolding(crate::specs::Verdicts::message_verdicts),
     using(pl_tlp::proofs::GroupLayouts::message_layout),
 )]
-pub(crate) fn judge_message<P: Packet>(dir: Dir, tlp: &P, at: u64, found: &mut Found)
+pub(crate) fn judge_message<P: Packet>(dir: Dir, tlp: P, at: u64, found: &mut Found)
     requires { array_vec_len found.old + 3 ≤ MOST_VERDICTS }
     ensures items { found.new.items
-        ≡ found.old.items ++ message_verdicts dir (P.fields tlp.now) at }
+        ≡ found.old.items ++ message_verdicts dir (P.fields tlp) at }
     ensures most { array_vec_len found.new ≤ array_vec_len found.old + 3 }
 {
     if !tlp.kind().is_message() {
         return;
     }
     if let Some(listed) = message_of(tlp.code()) {
-        let wrong_way = goes_wrong(&listed, dir, tlp);
+        let wrong_way = goes_wrong(&listed, dir, &tlp);
         add_if(found, wrong_way, Rule::M13, at, None, None);
         let wrong_class = listed.only_tc0 && tlp.tc() != 0;
         add_if(found, wrong_class, Rule::M14, at, None, None);
-        let wrong_data = !may_be(listed.carried, tlp);
+        let wrong_data = !may_be(listed.carried, &tlp);
         add_if(found, wrong_data, Rule::M15, at, None, None);
     }
 }

@@ -15,7 +15,7 @@ use crate::tlp::Tlp;
 ///
 /// A field that only some kinds have is asked of those alone, since its bytes mean something else
 /// in the others.
-pub trait Packet {
+pub trait Packet: Copy {
     ghost fields: { Self → Fields };
 
     fn kind(&self) -> Kind

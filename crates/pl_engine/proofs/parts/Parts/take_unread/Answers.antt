@@ -14,7 +14,7 @@ pub returns-clause-judged : goal.returns-clause-judged
 returns-clause-judged c = λ past sure stands at how.
     let x = entry c.args.item.now in
     let profile = c.args.profile.now in
-    let packet = seen_outcome c.args.seen.now in
+    let packet = seen_outcome c.args.seen in
     record {
       allowed = unread-blocked past x c.requires.slot.kind profile packet sure
           how.seen how.certain how.taken c.requires.unread how.slot;
