@@ -225,24 +225,26 @@ fn wide_tag(alloc: Global) -> Result<Vec<u8>, Fail> {
 /// The same capture under two profiles of a bench.
 fn judge_by_rows<K: Keeper>(alloc: Global, keeper: &mut K) -> Result<u8, Fail> {
     let capture = wide_tag(alloc)?;
-    let _ = keeper.put_profile(alloc, "b1", "five", b"tag_bits = 5");
-    let _ = keeper.put_profile(alloc, "b1", "usual", b"");
-    let _ = keeper.put_capture(alloc, "b1", "k5", "five", &capture);
-    let _ = keeper.put_capture(alloc, "b1", "k8", "usual", &capture);
-    let five = "{\"bench\":\"b1\",\"items\":13,\"key\":\"k5\",\"total\":1,\
-                \"verdicts\":[{\"at\":13,\"first\":null,\"rule\":\"M20\",\"second\":null}]}";
-    let usual = "{\"bench\":\"b1\",\"items\":13,\"key\":\"k8\",\"total\":0,\"verdicts\":[]}";
+    let put_five = "PUT /benches/b1/profiles/five HTTP/1.1\r\nContent-Length: 12";
+    let five = "{\"bench\":\"b1\",\"profile\":\"five\"}";
+    let put_usual = "PUT /benches/b1/profiles/usual HTTP/1.1\r\nContent-Length: 0";
+    let usual = "{\"bench\":\"b1\",\"profile\":\"usual\"}";
+    let put_k5 = "PUT /benches/b1/profiles/five/captures/k5 HTTP/1.1\r\nContent-Length: 282";
+    let k5 = "{\"bench\":\"b1\",\"items\":13,\"key\":\"k5\",\"profile\":\"five\",\"verdicts\":1}";
+    let put_k8 = "PUT /benches/b1/profiles/usual/captures/k8 HTTP/1.1\r\nContent-Length: 282";
+    let k8 = "{\"bench\":\"b1\",\"items\":13,\"key\":\"k8\",\"profile\":\"usual\",\"verdicts\":0}";
+    let broken = "{\"bench\":\"b1\",\"items\":13,\"key\":\"k5\",\"total\":1,\
+                  \"verdicts\":[{\"at\":13,\"first\":null,\"rule\":\"M20\",\"second\":null}]}";
+    let clean = "{\"bench\":\"b1\",\"items\":13,\"key\":\"k8\",\"total\":0,\"verdicts\":[]}";
+    let get_k5 = "GET /benches/b1/captures/k5/verdicts HTTP/1.1";
+    let get_k8 = "GET /benches/b1/captures/k8/verdicts HTTP/1.1";
     let exchanges = [
-        Exchange::new(
-            "GET /benches/b1/captures/k5/verdicts HTTP/1.1",
-            "200 OK",
-            five,
-        ),
-        Exchange::new(
-            "GET /benches/b1/captures/k8/verdicts HTTP/1.1",
-            "200 OK",
-            usual,
-        ),
+        Exchange::new(put_five, "201 Created", five).with(b"tag_bits = 5"),
+        Exchange::new(put_usual, "201 Created", usual),
+        Exchange::new(put_k5, "201 Created", k5).with(&capture),
+        Exchange::new(put_k8, "201 Created", k8).with(&capture),
+        Exchange::new(get_k5, "200 OK", broken),
+        Exchange::new(get_k8, "200 OK", clean),
     ];
     judge(alloc, keeper, &exchanges)
 }
