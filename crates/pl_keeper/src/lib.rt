@@ -18,6 +18,3 @@ pub use error::KeepError;
 pub use keeper::{Keeper, KeyRow, Put, Stored};
 pub use limits::{LONGEST_BODY, MOST_CAPTURES, MOST_PROFILES};
 pub use memory::MapKeeper;
-
-#[cfg(test)]
-mod tests;

@@ -1,6 +1,6 @@
 //! The archive as it is worked out by hand, over each keeper.
 
-use crate::{
+use pl_keeper::{
     KeepError, Keeper, KeyRow, LONGEST_BODY, MapKeeper, Put, SqliteKeeper, Stored, open_in_memory,
 };
 use sqlite::{Connection, params};
@@ -11,8 +11,60 @@ use std::test::Fail;
 /// 64 characters, one of which SQL quotes.
 const QUOTED: &str = "it's-sixty-four-characters-long-abcdefghijklmnopqrstuvwxyz012345";
 
-fn other_bytes(length: u64, place: u64) -> Result<Put, KeepError> {
-    Ok(Put::OtherBytes { length, place })
+/// A row, and under which profile where it is a capture.
+#[derive(Clone, Copy)]
+struct Row {
+    bench: &'static str,
+    name: &'static str,
+    profile: Option<&'static str>,
+    bytes: &'static [u8],
+}
+
+const fn profile(bench: &'static str, name: &'static str, bytes: &'static [u8]) -> Row {
+    Row {
+        bench,
+        name,
+        profile: None,
+        bytes,
+    }
+}
+
+const fn capture(
+    bench: &'static str,
+    name: &'static str,
+    profile: &'static str,
+    bytes: &'static [u8],
+) -> Row {
+    Row {
+        bench,
+        name,
+        profile: Some(profile),
+        bytes,
+    }
+}
+
+/// Puts a row of at most the longest body.
+fn put<K: Keeper>(keeper: &mut K, alloc: Global, row: &Row) -> Result<Put, KeepError> {
+    if row.bytes.len() > LONGEST_BODY {
+        return Err(KeepError::Failed);
+    }
+    match row.profile {
+        Some(profile) => keeper.put_capture(alloc, row.bench, row.name, profile, row.bytes),
+        None => keeper.put_profile(alloc, row.bench, row.name, row.bytes),
+    }
+}
+
+/// Puts each row, and looks at its answer.
+fn put_each<K: Keeper>(rt: &impl Abort, alloc: Global, keeper: &mut K, rows: &[(Row, Put)]) {
+    for (row, answer) in rows {
+        assert_eq!(rt;
+            put(keeper, alloc, row),
+            Ok(*answer),
+            "{} {}",
+            row.bench,
+            row.name
+        );
+    }
 }
 
 /// The captures of a bench, each as `key profile length` and a semicolon.
@@ -31,80 +83,69 @@ fn listed<K: Keeper>(keeper: &mut K, alloc: Global, bench: &str) -> Result<Strin
 
 /// Puts over one row, and up to the last profile that a bench may have.
 fn a_day_at_a_bench<K: Keeper>(rt: &impl Abort, alloc: Global, keeper: &mut K) {
-    assert_eq!(rt;
-        keeper.put_profile(alloc, "b1", "p1", b"vcs = 1\n"),
-        Ok(Put::New)
-    );
-    assert_eq!(rt;
-        keeper.put_profile(alloc, "b1", "p1", b"vcs = 1\n"),
-        Ok(Put::Same)
-    );
-    assert_eq!(rt;
-        keeper.put_profile(alloc, "b1", "p1", b"vcs = 2\n"),
-        other_bytes(8, 6)
-    );
-    assert_eq!(rt;
-        keeper.put_profile(alloc, "b1", "p1", b"vcs = 1"),
-        other_bytes(8, 7)
-    );
-    assert_eq!(rt;
-        keeper.put_capture(alloc, "b1", "k1", "p9", &[0]),
-        Ok(Put::NoProfile)
-    );
-    assert_eq!(rt;
-        keeper.put_capture(alloc, "b1", "k1", "p1", &[0]),
-        Ok(Put::New)
+    let other = |place| Put::OtherBytes { length: 8, place };
+    put_each(
+        rt,
+        alloc,
+        keeper,
+        &[
+            (profile("b1", "p1", b"vcs = 1\n"), Put::New),
+            (profile("b1", "p1", b"vcs = 1\n"), Put::Same),
+            (profile("b1", "p1", b"vcs = 2\n"), other(6)),
+            (profile("b1", "p1", b"vcs = 1"), other(7)),
+            (capture("b1", "k1", "p9", &[0]), Put::NoProfile),
+            (capture("b1", "k1", "p1", &[0]), Put::New),
+        ],
     );
     for name in [
         "p2", "p3", "p4", "p5", "p6", "p7", "p8", "p9", "p10", "p11", "p12", "p13", "p14", "p15",
         "p16",
     ] {
-        assert_eq!(rt;
-            keeper.put_profile(alloc, "b1", name, &[]),
-            Ok(Put::New),
-            "{name}"
-        );
+        put_each(rt, alloc, keeper, &[(profile("b1", name, &[]), Put::New)]);
     }
-    assert_eq!(rt;
-        keeper.put_capture(alloc, "b1", "k1", "p2", &[0]),
-        Ok(Put::OtherProfile)
+    put_each(
+        rt,
+        alloc,
+        keeper,
+        &[
+            (capture("b1", "k1", "p2", &[0]), Put::OtherProfile),
+            (profile("b1", "p17", &[]), Put::Full),
+            (profile("b2", "p1", &[]), Put::New),
+        ],
     );
-    assert_eq!(rt; keeper.put_profile(alloc, "b1", "p17", &[]), Ok(Put::Full));
-    assert_eq!(rt; keeper.put_profile(alloc, "b2", "p1", &[]), Ok(Put::New));
 }
 
 /// As many captures as a bench may have, the last key first.
 fn a_full_bench<K: Keeper>(rt: &impl Abort, alloc: Global, keeper: &mut K) -> Result<(), Fail> {
-    assert_eq!(rt; keeper.put_profile(alloc, "b", "p", &[]), Ok(Put::New));
+    put_each(rt, alloc, keeper, &[(profile("b", "p", &[]), Put::New)]);
     for k in 0..64u32 {
         let key = format!(in alloc; "k{:02}", 63 - k)?;
         let put = keeper.put_capture(alloc, "b", key.as_str(), "p", &[1, 2]);
         assert_eq!(rt; put, Ok(Put::New), "{key}");
     }
-    assert_eq!(rt;
-        keeper.put_capture(alloc, "b", "k64", "p", &[]),
-        Ok(Put::Full)
-    );
-    assert_eq!(rt;
-        keeper.put_capture(alloc, "b", "k64", "q", &[]),
-        Ok(Put::NoProfile)
-    );
-    assert_eq!(rt;
-        keeper.put_capture(alloc, "b", "k63", "p", &[1, 2]),
-        Ok(Put::Same)
+    put_each(
+        rt,
+        alloc,
+        keeper,
+        &[
+            (capture("b", "k64", "p", &[]), Put::Full),
+            (capture("b", "k64", "q", &[]), Put::NoProfile),
+            (capture("b", "k63", "p", &[1, 2]), Put::Same),
+        ],
     );
     Ok(())
 }
 
 /// Bodies and names that a text could spoil.
 fn odd_rows<K: Keeper>(rt: &impl Abort, alloc: Global, keeper: &mut K) -> Result<(), Fail> {
-    assert_eq!(rt;
-        keeper.put_profile(alloc, QUOTED, QUOTED, &[0, 10, 0]),
-        Ok(Put::New)
-    );
-    assert_eq!(rt;
-        keeper.put_capture(alloc, QUOTED, QUOTED, QUOTED, &[]),
-        Ok(Put::New)
+    put_each(
+        rt,
+        alloc,
+        keeper,
+        &[
+            (profile(QUOTED, QUOTED, &[0, 10, 0]), Put::New),
+            (capture(QUOTED, QUOTED, QUOTED, &[]), Put::New),
+        ],
     );
     let profile = keeper.profile(alloc, QUOTED, QUOTED)?.ok_or("no profile")?;
     assert_eq!(rt; profile.as_slice(), [0, 10, 0].as_slice());
@@ -118,12 +159,13 @@ fn odd_rows<K: Keeper>(rt: &impl Abort, alloc: Global, keeper: &mut K) -> Result
 
 /// Keys are listed byte by byte, whatever the order of storing.
 fn keys_in_order<K: Keeper>(rt: &impl Abort, alloc: Global, keeper: &mut K) -> Result<(), Fail> {
-    assert_eq!(rt; keeper.put_profile(alloc, "b", "p", &[]), Ok(Put::New));
+    put_each(rt, alloc, keeper, &[(profile("b", "p", &[]), Put::New)]);
     for key in ["ab", "b", "a", "a-", "B"] {
-        assert_eq!(rt;
-            keeper.put_capture(alloc, "b", key, "p", &[1]),
-            Ok(Put::New),
-            "{key}"
+        put_each(
+            rt,
+            alloc,
+            keeper,
+            &[(capture("b", key, "p", &[1]), Put::New)],
         );
     }
     let keys = listed(keeper, alloc, "b")?;
@@ -185,17 +227,15 @@ fn the_planned_call_fails(rt: HostRuntime) -> Result<(), Fail> {
             keeper.keys(rt.alloc(), "b").is_err(),
         ];
         assert_eq!(rt; fails, [k == 1, k == 2, k == 3, k == 4, k == 5], "call {k}");
-        let profile = if k == 1 { Put::New } else { Put::Same };
-        let capture = if k <= 2 { Put::New } else { Put::Same };
-        assert_eq!(rt;
-            keeper.put_profile(rt.alloc(), "b", "p", &[]),
-            Ok(profile),
-            "call {k}"
-        );
-        assert_eq!(rt;
-            keeper.put_capture(rt.alloc(), "b", "k", "p", &[]),
-            Ok(capture),
-            "call {k}"
+        let again = |failed| if failed { Put::New } else { Put::Same };
+        put_each(
+            &rt,
+            rt.alloc(),
+            &mut keeper,
+            &[
+                (profile("b", "p", &[]), again(k == 1)),
+                (capture("b", "k", "p", &[]), again(k <= 2)),
+            ],
         );
     }
     Ok(())
@@ -205,10 +245,12 @@ fn the_planned_call_fails(rt: HostRuntime) -> Result<(), Fail> {
 #[test]
 fn one_keeper_after_the_other(rt: HostRuntime) -> Result<(), Fail> {
     let mut first = open_in_memory(rt.alloc())?;
-    assert_eq!(rt; first.put_profile(rt.alloc(), "b", "p", &[1]), Ok(Put::New));
-    assert_eq!(rt;
-        first.put_capture(rt.alloc(), "b", "k", "p", &[2, 0]),
-        Ok(Put::New)
+    let rows = [profile("b", "p", &[1]), capture("b", "k", "p", &[2, 0])];
+    put_each(
+        &rt,
+        rt.alloc(),
+        &mut first,
+        &rows.map(|row| (row, Put::New)),
     );
     let mut db = first.into_connection();
     db.execute(
@@ -217,17 +259,17 @@ fn one_keeper_after_the_other(rt: HostRuntime) -> Result<(), Fail> {
         &[],
     )?;
     let mut second = SqliteKeeper::new(db);
-    assert_eq!(rt;
-        second.put_profile(rt.alloc(), "b", "p", &[1]),
-        Ok(Put::Same)
+    put_each(
+        &rt,
+        rt.alloc(),
+        &mut second,
+        &rows.map(|row| (row, Put::Same)),
     );
-    assert_eq!(rt;
-        second.put_capture(rt.alloc(), "b", "k", "p", &[2, 0]),
-        Ok(Put::Same)
-    );
-    assert_eq!(rt;
-        second.put_capture(rt.alloc(), "b", "z", "p", &[]),
-        Ok(Put::New)
+    put_each(
+        &rt,
+        rt.alloc(),
+        &mut second,
+        &[(capture("b", "z", "p", &[]), Put::New)],
     );
     assert_eq!(rt;
         listed(&mut second, rt.alloc(), "b")?.as_str(),
@@ -251,15 +293,14 @@ fn a_database_with_other_profiles(rt: HostRuntime) -> Result<(), Fail> {
     let mut db = Connection::open_in_memory(rt.alloc())?;
     db.execute_batch("CREATE TABLE profiles (bench TEXT, name TEXT) STRICT")?;
     let mut keeper = SqliteKeeper::new(db);
-    let failed = Some(KeepError::Failed);
-    assert_eq!(rt; keeper.put_profile(rt.alloc(), "b", "p", &[]).err(), failed);
-    assert_eq!(rt;
-        keeper.put_capture(rt.alloc(), "b", "k", "p", &[]).err(),
-        failed
-    );
-    assert_eq!(rt; keeper.profile(rt.alloc(), "b", "p").err(), failed);
-    assert_eq!(rt; keeper.capture(rt.alloc(), "b", "k").err(), failed);
-    assert_eq!(rt; keeper.keys(rt.alloc(), "b").err(), failed);
+    let failed = [
+        put(&mut keeper, rt.alloc(), &profile("b", "p", &[])).err(),
+        put(&mut keeper, rt.alloc(), &capture("b", "k", "p", &[])).err(),
+        keeper.profile(rt.alloc(), "b", "p").err(),
+        keeper.capture(rt.alloc(), "b", "k").err(),
+        keeper.keys(rt.alloc(), "b").err(),
+    ];
+    assert_eq!(rt; failed, [Some(KeepError::Failed); 5]);
     let mut db = keeper.into_connection();
     assert_eq!(rt;
         db.query_all("SELECT name FROM sqlite_schema", &[])?.len(),
