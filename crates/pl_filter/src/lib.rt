@@ -18,6 +18,3 @@ pub use meaning::holds;
 pub use name::Name;
 pub use parser::parse;
 pub use printer::print;
-
-#[cfg(test)]
-mod tests;

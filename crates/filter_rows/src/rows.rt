@@ -2,10 +2,10 @@
 ghost use Rattle.std.specs.Prelude.{IfSome};
 ghost use Rattle.pl_capture.specs.Entry.{IsLawful, view};
 
-use crate::*;
 use pl_base::{Class, Dir};
 use pl_capture::{Item, ItemKind};
 use pl_dllp::Stage;
+use pl_filter::{Filter, FilterError, Name, Test, holds, name_of, parse, print};
 use pl_tlp::Kind;
 use std::process::Abort;
 use std::test::Fail;
