@@ -24,6 +24,3 @@ pub use refusal::{LONGEST_BODY, Refusal};
 pub use request::{Request, read_request};
 pub use routes::{Kind, Routes};
 pub use serve::{Served, serve_one};
-
-#[cfg(test)]
-mod tests;

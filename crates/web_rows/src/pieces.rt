@@ -1,9 +1,9 @@
 //! However a request comes, it is answered the same; and what is lost on the way.
 
-use super::asking::{answers, peer};
-use crate::{Routes, Served, serve_one};
+use crate::asking::{answers, peer};
 use pl_io::MemConn;
 use pl_keeper::MapKeeper;
+use pl_web::{Routes, Served, serve_one};
 use std::test::Fail;
 
 const NO_REPLY: Served = Served {

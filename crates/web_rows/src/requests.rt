@@ -1,7 +1,7 @@
 //! What requests ask for, and which of two reasons to refuse one comes first.
 
-use crate::{Refusal, Request, Routes, read_request};
 use pl_head::{Form, Method};
+use pl_web::{Refusal, Request, Routes, read_request};
 use std::test::Fail;
 
 const SIZED: Form = Form::Length(5);

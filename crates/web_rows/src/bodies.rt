@@ -1,7 +1,7 @@
 //! Bodies, byte for byte.
 
-use crate::{Refusal, bodies};
 use pl_head::{Method, Status};
+use pl_web::{Refusal, bodies};
 use std::test::Fail;
 
 #[test]

@@ -2,14 +2,14 @@
 
 ghost use Rattle.std.specs.Prelude.{◌<◌};
 
-use crate::{Routes, Served, serve_one};
 use pl_io::MemConn;
 use pl_keeper::MapKeeper;
+use pl_web::{Routes, Served, serve_one};
 use std::alloc::Global;
 use std::test::Fail;
 
 /// Two Acks, of which the second has a wrong CRC.
-pub(super) const CAPTURE: [u8; 72] = [
+pub(crate) const CAPTURE: [u8; 72] = [
     0x50, 0x43, 0x49, 0x45, 0x4C, 0x49, 0x4E, 0x4B, 0x00, 0x01, 0x00, 0, 0, 0, 0, 0, // header
     0x01, 0x01, 0x00, 0x06, 0, 0, 0, 0, 0, 0, 0, 1, 0x00, 0x00, 0x0F, 0xFF, 0x25, 0xA8, // item 1
     0x01, 0x01, 0x00, 0x06, 0, 0, 0, 0, 0, 0, 0, 2, 0x00, 0x00, 0x0F, 0xFF, 0x25, 0xA9, // item 2
@@ -17,13 +17,13 @@ pub(super) const CAPTURE: [u8; 72] = [
 ];
 
 /// A capture without items.
-pub(super) const EMPTY: [u8; 36] = [
+pub(crate) const EMPTY: [u8; 36] = [
     0x50, 0x43, 0x49, 0x45, 0x4C, 0x49, 0x4E, 0x4B, 0x00, 0x01, 0x00, 0, 0, 0, 0, 0, // header
     0x03, 0x00, 0x00, 0x08, 0, 0, 0, 0, 0, 0, 0, 1, 0, 0, 0, 0, 0, 0, 0, 0, // end
 ];
 
 /// A peer that sends a head and a body, so many bytes at a time.
-pub(super) fn peer(alloc: Global, head: &str, body: &[u8], step: usize) -> Result<MemConn, Fail>
+pub(crate) fn peer(alloc: Global, head: &str, body: &[u8], step: usize) -> Result<MemConn, Fail>
     requires { 0 < step }
 {
     let mut text = Vec::from_slice(alloc, head.as_bytes())?;
@@ -32,7 +32,7 @@ pub(super) fn peer(alloc: Global, head: &str, body: &[u8], step: usize) -> Resul
 }
 
 /// Whether a head and a body are answered with this status and this body.
-pub(super) fn answers(
+pub(crate) fn answers(
     alloc: Global,
     keeper: &mut MapKeeper,
     head: &str,
@@ -49,7 +49,7 @@ pub(super) fn answers(
 }
 
 /// Whether an upload is answered with this status and this body.
-pub(super) fn put(
+pub(crate) fn put(
     alloc: Global,
     keeper: &mut MapKeeper,
     target: &str,

@@ -1,9 +1,9 @@
 //! Requests from their bytes to those of the replies, over an archive in memory.
 
-use super::asking::{CAPTURE, EMPTY, answers, put};
-use crate::{Routes, Served, serve_one};
+use crate::asking::{CAPTURE, EMPTY, answers, put};
 use pl_io::MemConn;
 use pl_keeper::{Keeper, MapKeeper};
+use pl_web::{Routes, Served, serve_one};
 use std::alloc::Global;
 use std::test::Fail;
 

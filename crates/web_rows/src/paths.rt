@@ -1,6 +1,6 @@
 //! Which paths have a route, and the names in them.
 
-use crate::{Kind, Routes, is_name, segment};
+use pl_web::{Kind, Routes, is_name, segment};
 use std::test::Fail;
 
 const PATHS: [(&str, Option<Kind>); 18] = [

@@ -1,6 +1,6 @@
 //! Requests that the rows, a profile or a capture refuse: of two reasons the first counts.
 
-use super::asking::{CAPTURE, EMPTY, answers, put};
+use crate::asking::{CAPTURE, EMPTY, answers, put};
 use pl_keeper::{Keeper, MapKeeper};
 use std::test::Fail;
 
