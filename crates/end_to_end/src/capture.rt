@@ -1,5 +1,6 @@
 //! The bytes of a capture: its cutting, its end and its refusals.
-use crate::desk::{Calls, DAMAGED_ACK_LINES, EMPTY, check, check_by, damaged_ack};
+use crate::desk::{Calls, DAMAGED_ACK_LINES, check, check_by};
+use pl_notation::{EMPTY, damaged_ack};
 use std::test::Fail;
 
 #[test]

@@ -1,9 +1,9 @@
 //! The completion rules C1 to C10, and captures of whole transactions.
-use crate::desk::{Calls, Case, Outcome, check_by, judge};
+use crate::desk::{Calls, Case, check_by, judge};
 use pl_cli::check_with;
 use pl_engine::Engine;
 use pl_io::{MemShelf, MemSink};
-use pl_notation::Notation;
+use pl_notation::{Notation, Outcome};
 use pl_profile::Profile;
 use std::alloc::Global;
 use std::test::Fail;

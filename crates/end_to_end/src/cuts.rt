@@ -1,5 +1,6 @@
 //! A capture that is cut at every length, and an outside that fails at every call.
-use crate::desk::{Calls, DAMAGED_ACK_LINES, check, check_by, damaged_ack};
+use crate::desk::{Calls, DAMAGED_ACK_LINES, check, check_by};
+use pl_notation::damaged_ack;
 use std::test::Fail;
 
 /// What is written of the capture with a damaged Ack where so many of its 72 bytes are there.

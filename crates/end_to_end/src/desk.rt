@@ -1,38 +1,12 @@
 //! An engineer's desk: captures under names, and what the program wrote about them.
 ghost use Rattle.std.specs.Prelude.{◌<◌};
 
-use pl_base::Dir;
 use pl_cli::run;
 use pl_io::{MemDoor, MemShelf, MemSink};
 use pl_keeper::MapKeeper;
-use pl_notation::Notation;
+use pl_notation::{Notation, Outcome};
 use std::alloc::{AllocError, Global};
 use std::test::Fail;
-
-/// What one run of the program answered and wrote.
-#[derive(Debug, Drop)]
-pub struct Outcome {
-    pub status: u8,
-    pub output: Vec<u8>,
-}
-
-impl Outcome {
-    pub fn is(&self, status: u8, output: &str) -> bool {
-        self.status == status && self.output.as_slice() == output.as_bytes()
-    }
-
-    /// Whether these lines were written, which are parted by `;`, and nothing else.
-    pub fn has_lines(&self, lines: &str) -> bool {
-        let mut rest = self.output.as_slice();
-        for line in lines.split(';') {
-            match rest.strip_prefix(line.trim().as_bytes()) {
-                Some([b'\n', behind @ ..]) => rest = behind,
-                _ => return false,
-            }
-        }
-        rest.is_empty()
-    }
-}
 
 /// A capture by its rows, and what `check` answers of it.
 #[derive(Clone, Copy)]
@@ -168,19 +142,5 @@ pub fn check_by(
     run_words(alloc, &["check", "-", "capture"], capture, reads, writes)
 }
 
-/// The header, and an end record that counts no item.
-pub const EMPTY: [u8; 36] = [
-    0x50, 0x43, 0x49, 0x45, 0x4C, 0x49, 0x4E, 0x4B, 0x00, 0x01, 0x00, 0x00, 0x00, 0x00, 0x00, 0x00,
-    0x03, 0x00, 0x00, 0x08, 0, 0, 0, 0, 0, 0, 0, 0, 0, 0, 0, 0, 0, 0, 0, 0,
-];
-
-/// A right Ack of number 4095, and the same with one wrong bit of its CRC.
-pub fn damaged_ack(alloc: Global) -> Result<Vec<u8>, AllocError> {
-    let mut notation = Notation::new(alloc, 0)?;
-    notation.dllp_as_captured(Dir::Up, [0x00, 0x00, 0x0F, 0xFF, 0x25, 0xA8])?;
-    notation.dllp_as_captured(Dir::Up, [0x00, 0x00, 0x0F, 0xFF, 0x25, 0xA9])?;
-    notation.end()
-}
-
-/// What the program writes of it.
+/// What the program writes of a damaged Ack.
 pub const DAMAGED_ACK_LINES: &str = "item 2 rule L2 first - second -\nend items 2 verdicts 1\n";

@@ -1,7 +1,7 @@
 //! Reads and writes that fail, and command lines that are none.
-use crate::desk::{Calls, EMPTY, check_by, damaged_ack, run_words};
+use crate::desk::{Calls, check_by, run_words};
 use pl_base::Dir;
-use pl_notation::Notation;
+use pl_notation::{EMPTY, Notation, damaged_ack};
 use std::alloc::{AllocError, Global};
 use std::test::Fail;
 

@@ -2,8 +2,6 @@
 #![tactic(auto)]
 
 #[cfg(test)]
-mod archive;
-#[cfg(test)]
 mod capture;
 #[cfg(test)]
 mod completions;
@@ -29,8 +27,6 @@ mod notation;
 mod order;
 #[cfg(test)]
 mod profile;
-#[cfg(test)]
-mod replies;
 #[cfg(test)]
 mod sequence;
 #[cfg(test)]

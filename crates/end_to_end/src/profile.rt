@@ -1,6 +1,7 @@
 //! The profile of a command.
-use crate::desk::{DAMAGED_ACK_LINES, Outcome, answer, damaged_ack};
+use crate::desk::{DAMAGED_ACK_LINES, answer};
 use pl_io::{MemShelf, MemSink};
+use pl_notation::{Outcome, damaged_ack};
 use std::alloc::{AllocError, Global};
 use std::test::Fail;
 

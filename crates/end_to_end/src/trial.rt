@@ -1,5 +1,6 @@
 //! Generated captures: what `trial` reports of them, and which words ask for one.
-use crate::desk::{Calls, EMPTY, Outcome, run_words};
+use crate::desk::{Calls, run_words};
+use pl_notation::{EMPTY, Outcome};
 use std::alloc::{AllocError, Global};
 use std::test::Fail;
 

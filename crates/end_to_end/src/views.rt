@@ -1,11 +1,11 @@
 //! What `list` and `report` show of a capture.
 use crate::completions::TRANSACTIONS;
-use crate::desk::{Calls, EMPTY, Outcome, damaged_ack, run_words};
+use crate::desk::{Calls, run_words};
 use pl_cli::{list_with, report_with};
 use pl_engine::Engine;
 use pl_filter::parse;
 use pl_io::{MemShelf, MemSink};
-use pl_notation::Notation;
+use pl_notation::{EMPTY, Notation, Outcome, damaged_ack};
 use pl_profile::Profile;
 use std::alloc::{AllocError, Global};
 use std::test::Fail;

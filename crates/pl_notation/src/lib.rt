@@ -5,10 +5,14 @@
 #![tactic(auto)]
 
 mod bring_up;
+mod captures;
 mod dllp_row;
 mod notation;
+mod outcome;
 mod rows;
 mod tlp_row;
 
+pub use captures::{EMPTY, damaged_ack};
 pub use notation::Notation;
+pub use outcome::Outcome;
 pub use rows::RowError;

@@ -1,10 +1,9 @@
 //! The archive over HTTP, from the bytes of requests to those of their replies, over each keeper.
 
-use crate::desk::{EMPTY, damaged_ack};
 use pl_cli::serve;
 use pl_io::{MemConn, MemDoor, MemSink, TcpDoor};
 use pl_keeper::{Keeper, MapKeeper, SqliteKeeper, open_in_memory};
-use pl_notation::Notation;
+use pl_notation::{EMPTY, Notation, damaged_ack};
 use sqlite::Connection;
 use std::alloc::{AllocError, Global};
 use std::io::{Read, Write};

@@ -1,9 +1,9 @@
 //! The archive over links in memory: the lines of a run that serves them, and its status.
 
-use crate::desk::{Outcome, damaged_ack};
 use pl_cli::{run, serve};
 use pl_io::{MemConn, MemDoor, MemShelf, MemSink};
 use pl_keeper::{Keeper, MapKeeper};
+use pl_notation::{Outcome, damaged_ack};
 use std::alloc::{AllocError, Global};
 use std::test::Fail;
 

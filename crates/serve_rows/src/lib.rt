@@ -1,0 +1,7 @@
+//! The archive over links, from the bytes of requests to those of replies and lines.
+#![tactic(auto)]
+
+#[cfg(test)]
+mod archive;
+#[cfg(test)]
+mod replies;
