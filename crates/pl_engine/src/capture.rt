@@ -9,10 +9,12 @@ ghost use Rattle.pl_engine.specs.Judged.{judged_items, judged_verdicts, stop_of_
 ghost use Rattle.pl_engine.specs.Judged.{stop_of_reading};
 ghost use Rattle.pl_engine.specs.SoFar.{IsFresh, SoFar};
 ghost use Rattle.pl_engine.specs.Verdicts.{refusal};
+ghost use Rattle.pl_engine.specs.Wanted.{wanted_of};
 ghost use Rattle.pl_profile.specs.declared.profile.Profile.{Profile};
 
 use crate::engine::Engine;
 use crate::judged::Judged;
+use crate::wanted::Wanted;
 use pl_base::{Found, MOST_VERDICTS, Stop};
 use pl_capture::{Reader, Step};
 use pl_profile::Profile;
@@ -46,7 +48,11 @@ pub fn judge_all(alloc: Global, profile: Profile, bytes: &[u8], most: usize) -> 
 
 /// An engine that has judged nothing, and room for `most` verdicts. It sees nothing of what is
 /// judged.
-fn open(alloc: Global, profile: Profile, most: usize) -> Result<(Engine, Judged), AllocError>
+pub(crate) fn open(
+    alloc: Global,
+    profile: Profile,
+    most: usize,
+) -> Result<(Engine, Judged), AllocError>
     ensures stands { IfOk result (λ opened. StandsFor opened.0 []) }
     ensures profile { IfOk result (λ opened. opened.0.profile ≡ profile) }
     ensures fresh { IfOk result (λ opened. IsFresh opened.1) }
@@ -65,7 +71,7 @@ fn open(alloc: Global, profile: Profile, most: usize) -> Result<(Engine, Judged)
 /// Where an item isn't judged (see [`Engine::feed`]), where the capture is malformed or of an
 /// unsupported form, or where it ends before its end record; in this order, with the number of the
 /// item.
-pub fn judge_all_with(mut engine: Engine, mut judged: Judged, bytes: &[u8]) -> Result<Judged, Stop>
+pub fn judge_all_with(engine: Engine, judged: Judged, bytes: &[u8]) -> Result<Judged, Stop>
     requires engine { StandsFor engine [] }
     requires fresh { IsFresh judged }
     requires size { length bytes.now < 2 ^ 60 }
@@ -81,13 +87,38 @@ pub fn judge_all_with(mut engine: Engine, mut judged: Judged, bytes: &[u8]) -> R
     ensures refused { IfErr result (λ stop.
         stop_of_reading engine.profile (reading bytes.now) ≡ Some stop) }
 {
+    judge_wanted(engine, judged, Wanted::Every, bytes)
+}
+
+/// The same for the verdicts that are wanted: they alone are counted and kept.
+pub(crate) fn judge_wanted(
+    mut engine: Engine,
+    mut judged: Judged,
+    wanted: Wanted,
+    bytes: &[u8],
+) -> Result<Judged, Stop>
+    requires engine { StandsFor engine [] }
+    requires fresh { IsFresh judged }
+    requires size { length bytes.now < 2 ^ 60 }
+    ensures items { IfOk result (λ all.
+        all.items ≡ length (judged_items engine.profile (reading bytes.now))) }
+    ensures total { IfOk result (λ all.
+        all.total ≡ length (wanted_of wanted (judged_verdicts engine.profile (reading bytes.now)))) }
+    ensures verdicts { IfOk result (λ all. all.verdicts.items
+        ≡ take judged.most (wanted_of wanted (judged_verdicts engine.profile (reading bytes.now)))) }
+
+    // The end is the right one, and no item is refused.
+    ensures ended { OnOk result (stop_of_reading engine.profile (reading bytes.now) ≡ None) }
+    ensures refused { IfErr result (λ stop.
+        stop_of_reading engine.profile (reading bytes.now) ≡ Some stop) }
+{
     let mut reader = Reader::new();
     let mut found = Found::new();
     let mut place = 0;
     while place < bytes.len() {
         match reader.feed(&bytes[place..]) {
             Step::Item { used } => {
-                judge_item(&reader, &mut engine, &mut found, &mut judged)?;
+                judge_item(&reader, &mut engine, &mut found, wanted, &mut judged)?;
                 place += used;
             }
             Step::End { used } => place += used,
@@ -117,6 +148,7 @@ fn judge_item(
     reader: &Reader,
     engine: &mut Engine,
     found: &mut Found,
+    wanted: Wanted,
     judged: &mut Judged,
 ) -> Result<(), Stop>
     requires holds { (x : Entry) × (reader.now.phase ≡ standing.Holding x) }
@@ -126,11 +158,11 @@ fn judge_item(
     requires none { found.old.items ≡ [] }
     ensures judged { (profile : Profile) (items : List Entry) (x : Entry) →
         reader.now.phase ≡ standing.Holding x →
-        SoFar profile items engine.old judged.old →
-        OnOk result (SoFar profile (items ++ x ∷ []) engine.new judged.new) }
+        SoFar profile wanted items engine.old judged.old →
+        OnOk result (SoFar profile wanted (items ++ x ∷ []) engine.new judged.new) }
     ensures refused { (profile : Profile) (items : List Entry) (x : Entry) →
         reader.now.phase ≡ standing.Holding x →
-        SoFar profile items engine.old judged.old →
+        SoFar profile wanted items engine.old judged.old →
         IfErr result (λ stop. refusal profile [] (items ++ x ∷ []) ≡ Some stop) }
     ensures total { OnOk result (judged.new.total ≤ judged.new.items * MOST_VERDICTS) }
     ensures most { judged.new.most ≡ judged.old.most }
@@ -142,7 +174,7 @@ fn judge_item(
     };
     match engine.feed_into(&item, found) {
         Ok(()) => {
-            judged.add(found.as_slice());
+            judged.add(wanted, found.as_slice());
             found.clear();
             Ok(())
         }
