@@ -1,0 +1,4 @@
+pub mod Hits
+pub mod Answers
+pub mod Causes
+pub mod Steps
