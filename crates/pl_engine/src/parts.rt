@@ -54,6 +54,7 @@ impl Parts {
     }
 
     /// Judges item `at`: the verdicts, in a list that was empty, and how it came.
+    #[inline(always)]
     pub(crate) fn judge(
         &mut self,
         profile: &Profile,
@@ -91,6 +92,7 @@ impl Parts {
     }
 
     /// A TLP, however it arrived.
+    #[inline(always)]
     #[tactic(auto, unfolding(crate::specs::Verdicts::verdicts_at, crate::specs::Verdicts::blocked))]
     fn tlp(
         &mut self,
@@ -123,6 +125,7 @@ impl Parts {
     }
 
     /// A DLLP.
+    #[inline(always)]
     #[tactic(auto, unfolding(crate::specs::Verdicts::verdicts_at, crate::specs::Verdicts::blocked))]
     fn dllp(&mut self, profile: &Profile, item: &Item, at: u64, found: &mut Found)
         requires kind { item.now.kind ≡ ItemKind.Dllp }
@@ -150,6 +153,8 @@ impl Parts {
     }
 
     /// A link down begins a new span, and breaks no rule.
+    #[cold]
+    #[inline(never)]
     #[tactic(auto, unfolding(crate::specs::Verdicts::verdicts_at, crate::specs::Verdicts::blocked))]
     fn link_down(&mut self)
         ensures judged { (profile : Profile) (past : List Entry) (x : Entry) →
@@ -164,6 +169,8 @@ impl Parts {
     }
 
     /// A gap begins a span of which all parts know that packets were missed, and breaks no rule.
+    #[cold]
+    #[inline(never)]
     #[tactic(auto, unfolding(crate::specs::Verdicts::verdicts_at, crate::specs::Verdicts::blocked))]
     fn gap(&mut self)
         ensures judged { (profile : Profile) (past : List Entry) (x : Entry) →

@@ -34,6 +34,7 @@ impl Parts {
 
     /// A TLP that its receiver takes, unless there is no room for it.
     #[tactic(auto, unfolding(crate::specs::Verdicts::blocked))]
+    #[inline(always)]
     pub(crate) fn take(
         &mut self,
         profile: &Profile,
@@ -77,6 +78,7 @@ impl Parts {
 
     /// A well-formed TLP, for which its lane has a slot; there may be no room among the open
     /// requests.
+    #[inline(always)]
     fn take_whole<P: Packet>(
         &mut self,
         profile: &Profile,
@@ -112,6 +114,7 @@ impl Parts {
 
     /// A TLP that isn't well-formed, for which its lane has a slot: neither credits nor pairs hear
     /// of it. Apart and by value, since few TLPs are such.
+    #[cold]
     #[inline(never)]
     fn take_unread(
         &mut self,
