@@ -115,22 +115,41 @@ refused_finishes {v} {p} {k} j file read rest s f is h le =
       engine_stands = subst (λ (l : List ℕ). engine.StandsFor k (history_after [] (judged_items p (reading l)))) (sym front) (f.refused.engine_stands more);
     }
 
-pub finishes : {v : View} {p : Profile} {k : Engine} {w w1 : Tells} {j : Judging} {t : Tally} (file read extra rest : List ℕ) (e : declared.Ended) →
-    EndsAs v p e read extra (Some rest) j k w w1 → IsTallyOf k t → length read ≤ limit → file ≡ (read ++ extra) ++ rest → is_fault e ≡ false →
-    Finishes v p file j k t (last_cause e j.reader) w w1
-finishes {j = j} file read extra rest ended.Whole h is le f fine =
+finishes_whole : {v : View} {p : Profile} {k : Engine} {w w1 : Tells} {j : Judging} {t : Tally} (file read extra rest : List ℕ) →
+    EndsAs v p ended.Whole read extra (Some rest) j k w w1 → IsTallyOf k t → length read ≤ limit → file ≡ (read ++ extra) ++ rest →
+    Finishes v p file j k t (last_cause ended.Whole j.reader) w w1
+finishes_whole {j = j} file read extra rest h is le f =
     let whole : file ≡ read = f ∙ ap (λ (l : List ℕ). (read ++ l) ++ rest) h.0 ∙ ap (λ (l : List ℕ). (read ++ []) ++ l) h.1 ∙ append-nil (read ++ []) ∙ append-nil read in
     let short : length file ≤ limit = subst (λ (l : List ℕ). length l ≤ limit) (sym whole) le in
     so_far_finishes file read Whole _ h.2 is (take_all limit file short ∙ whole) (short_file file short)
     (open_cause j.reader.place j.reader.phase (reading read) h.2.judged.reader_stands.shows h.2.judged.goes_on)
-finishes file read extra rest ended.Fault h is le f fine = cc
-finishes file read extra rest ended.TooLong h is le f fine =
+
+finishes_too_long : {v : View} {p : Profile} {k : Engine} {w w1 : Tells} {j : Judging} {t : Tally} (file read extra rest : List ℕ) →
+    EndsAs v p ended.TooLong read extra (Some rest) j k w w1 → IsTallyOf k t → file ≡ (read ++ extra) ++ rest →
+    Finishes v p file j k t (last_cause ended.TooLong j.reader) w w1
+finishes_too_long file read extra rest h is f =
     let whole : file ≡ read ++ (extra ++ rest) = f ∙ append_assoc read extra rest in
     so_far_finishes file read TooLong AtLimit h.2 is (ap (take limit) whole ∙ take_at read (extra ++ rest) limit h.0)
     (long_file file (omega (arith, ap length whole, length-append read (extra ++ rest), length-append extra rest, h.0, h.1)))
     (going (reading read).ending h.2.judged.goes_on).0
-finishes {j = j} file read extra rest (ended.Refused s) h is le f fine =
+
+finishes_refused : {v : View} {p : Profile} {k : Engine} {w w1 : Tells} {j : Judging} {t : Tally} (file read extra rest : List ℕ) (s : Stop) →
+    EndsAs v p (ended.Refused s) read extra (Some rest) j k w w1 → IsTallyOf k t → length read ≤ limit → file ≡ (read ++ extra) ++ rest →
+    Finishes v p file j k t (last_cause (ended.Refused s) j.reader) w w1
+finishes_refused {j = j} file read extra rest s h is le f =
     refused_finishes j file read rest s h.1 is (f ∙ ap (λ (l : List ℕ). (read ++ l) ++ rest) h.0 ∙ ap (λ (l : List ℕ). l ++ rest) (append-nil read)) le
+
+no_fault : {X : Type 0} → is_fault ended.Fault ≡ false → X
+no_fault fine = cc
+
+-- each end is a lemma of its own, so that no more is compared than its name
+pub finishes : {v : View} {p : Profile} {k : Engine} {w w1 : Tells} {j : Judging} {t : Tally} (file read extra rest : List ℕ) (e : declared.Ended) →
+    EndsAs v p e read extra (Some rest) j k w w1 → IsTallyOf k t → length read ≤ limit → file ≡ (read ++ extra) ++ rest → is_fault e ≡ false →
+    Finishes v p file j k t (last_cause e j.reader) w w1
+finishes file read extra rest ended.Whole h is le f fine = finishes_whole file read extra rest h is le f
+finishes file read extra rest ended.Fault h is le f fine = no_fault fine
+finishes file read extra rest ended.TooLong h is le f fine = finishes_too_long file read extra rest h is f
+finishes file read extra rest (ended.Refused s) h is le f fine = finishes_refused file read extra rest s h is le f
 
 -- what stands before a read fault
 pub fault_text : {v : View} {p : Profile} {k : Engine} {w w1 : Tells} {j : Judging} {t : Tally} (read : List ℕ) →
