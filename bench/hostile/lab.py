@@ -2,6 +2,7 @@
 import atexit
 import json
 import os
+import re
 import socket
 import subprocess
 import time
@@ -48,10 +49,11 @@ def get(path):
 
 
 def reply_of(text):
-    """The status and the body of a reply, with JSON read."""
-    if not text:
-        return NO_REPLY
+    """The status and the body of a reply, with JSON read. One that was cut off is none."""
     head, _, body = text.partition(b"\r\n\r\n")
+    length = re.search(rb"Content-Length: (\d+)", head)
+    if length is None or len(body) < int(length[1]):
+        return NO_REPLY
     return int(head.split()[1]), json.loads(body) if b"application/json" in head else body
 
 
