@@ -96,8 +96,8 @@ class Served:
             try:
                 link.sendall(request)
                 link.shutdown(socket.SHUT_WR)
-            except (BrokenPipeError, ConnectionResetError):
-                pass
+            except OSError:
+                pass  # it has closed the link already
             return receive(link)
 
     def resident(self):
