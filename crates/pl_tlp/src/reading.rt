@@ -38,6 +38,7 @@ pub fn view(tlp: &[u8]) -> View<'_>
 }
 
 /// Sees the same as [`view`], and leaves the fields in the bytes.
+#[inline(always)]
 #[tactic(auto, unfolding(crate::specs::Fields::view_of))]
 pub fn see(tlp: &[u8]) -> Seen<'_>
     ensures outcome { seen_outcome result ≡ view_of tlp.now }
