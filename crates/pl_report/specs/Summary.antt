@@ -1,7 +1,7 @@
 -- The summary of the items of a capture. Each line ends with LF.
 use Rattle.std.specs.Prelude.{ℕ, Bool, List, [], ◌∷◌, ◌++◌, map, slice_index, nat_lt}
-use Rattle.std.specs.Prelude.{codes, decimal}
-use Rattle.std.specs.List.{filter}
+use Rattle.std.specs.Prelude.{codes, decimal, bytes_eq, Option}
+use Rattle.std.specs.List.{filter, find}
 use Rattle.pl_base.specs.Link as dir
 use Rattle.pl_base.specs.Rule.{index_of, name_of}
 use Rattle.pl_base.specs.declared.link.Dir.TheVariants.{Down, Up}
@@ -45,6 +45,10 @@ every_rule =
     L1 ∷ L2 ∷ L3 ∷ S1 ∷ S2 ∷ S3 ∷ S4 ∷ S5 ∷ F1 ∷ F2 ∷ F3 ∷ F4 ∷ F5 ∷ F6 ∷ F7 ∷ F8 ∷ F9 ∷ F10
     ∷ F11 ∷ M1 ∷ M2 ∷ M3 ∷ M4 ∷ M5 ∷ M6 ∷ M7 ∷ M8 ∷ M9 ∷ M10 ∷ M11 ∷ M12 ∷ M13 ∷ M14 ∷ M15
     ∷ M16 ∷ M17 ∷ M18 ∷ M19 ∷ M20 ∷ C1 ∷ C2 ∷ C3 ∷ C4 ∷ C5 ∷ C6 ∷ C7 ∷ C8 ∷ C9 ∷ C10 ∷ []
+
+-- the rule with this printed name
+abbrev pub named : List ℕ → Option Rule
+named name = find (λ rule. bytes_eq (name_of rule) name) every_rule
 
 abbrev pub verdicts_of : Tally → Rule → ℕ
 verdicts_of t rule = slice_index t.rules (index_of rule)

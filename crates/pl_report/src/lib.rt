@@ -21,7 +21,7 @@ pub use refusal::{
     filter_error_line, length_line, profile_error_line, read_fault_line, stop_line, usage_line,
 };
 pub use served::{door_fault_line, served_line, store_fault_line};
-pub use summary::summary_line;
+pub use summary::{rule_named, summary_line};
 pub use verdict::verdict_line;
 
 #[cfg(test)]

@@ -4,7 +4,7 @@ ghost use Rattle.std.specs.Prelude.{IfSome, IsNone, Some};
 ghost use Rattle.std.specs.List.{filter};
 ghost use Rattle.arrayvec.specs.ArrayString.{array_string_len};
 ghost use Rattle.pl_report.specs.Summary.{count_text, count_lines, directions_text, is_broken};
-ghost use Rattle.pl_report.specs.Summary.{every_rule, rule_text, summary_lines};
+ghost use Rattle.pl_report.specs.Summary.{every_rule, named, rule_text, summary_lines};
 
 use crate::line::{Line, push_number};
 use pl_base::{Dir, RULES, Rule, Tally};
@@ -83,6 +83,17 @@ fn broken_rule(tally: &Tally, k: usize) -> Option<Rule>
         .copied()
         .filter(|rule| tally.rules[rule.index()] > 0)
         .nth(k)
+}
+
+/// The rule with this printed name, as `C9`, or None where no rule has it. Names are told apart by
+/// case.
+pub fn rule_named(name: &str) -> Option<Rule>
+    ensures { result ≡ named name.now }
+{
+    every_rule()
+        .iter()
+        .copied()
+        .find(|rule| rule.name() == name)
 }
 
 /// Every rule, in the order of their indices.
