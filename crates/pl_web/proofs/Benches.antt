@@ -1,6 +1,6 @@
 -- What is looked up in a bench is among its rows, so the reply to a request depends on them alone.
 use Rattle.std.proofs.Common.{◌≡◌, ℕ, List, [], ◌∷◌, Bool, true, false, cond, refl, ap, sym, ◌∙◌}
-use Rattle.std.proofs.Common.{length, take}
+use Rattle.std.proofs.Common.{length, take, map}
 use Rattle.std.specs.Prelude.{◌&&◌, filter, nat_lt, bytes_eq, Option, Some, None, Result, Ok, Err}
 use Rattle.std.specs.Prelude.{option_map}
 use Rattle.std.specs.List.{find}
@@ -12,18 +12,22 @@ use Rattle.pl_keeper.specs.Archive.{Archive, Profile, Capture, profile_at, captu
 use Rattle.pl_keeper.specs.Archive.{profiles_of, captures_of}
 use Rattle.pl_keeper.specs.Listing.{Found, found_of}
 use Rattle.pl_keeper.specs.Puts.{profile_put, capture_put, put_of_profile, put_of_capture}
+use Rattle.pl_base.specs.declared.rule.Rule.{Rule}
 use Rattle.pl_profile.specs.ProfileOf.{profile_of}
 use Rattle.pl_profile.specs.declared.error.ProfileError.{ProfileError}
 use Rattle.pl_profile.specs.declared.profile.Profile.{Profile as PortProfile}
 use Rattle.pl_web.specs.Answer.{Outcome, listing, unanswered}
 use Rattle.pl_web.specs.Bodies.{profile_body, capture_body}
 use Rattle.pl_web.specs.Gets.{capture_shown, verdicts_found, verdicts_shown}
+use Rattle.pl_search.specs.Hits.{ascending, by_profile, hits_at, hits_in, hits_of, hits_over}
+use Rattle.pl_search.specs.Hits.{joined, keys_of, text_of}
+use Rattle.pl_web.specs.Hits.{hits_answer}
 use Rattle.pl_web.specs.Judging.{Finding, judged, unjudged, finding}
 use Rattle.pl_web.specs.Laws.{AgreeOn, AgreeFor}
 use Rattle.pl_web.specs.Outcome.{with_body, outcome_of}
 use Rattle.pl_web.specs.Puts.{put_answer, profile_sent, capture_found, capture_sent}
 use Rattle.pl_web.specs.Requests.{Asked, put_profile, put_capture, list_captures}
-use Rattle.pl_web.specs.Requests.{get_capture, get_verdicts, refused}
+use Rattle.pl_web.specs.Requests.{get_capture, get_verdicts, get_hits, refused}
 
 -- ---- the look-ups of a bench
 
@@ -136,6 +140,36 @@ verdicts_same a b bench key (Some found) same =
     (finding (option_map (λ p. p.bytes) row) found.bytes)).answer)
     (profile_same a b bench same found.profile)
 
+-- ---- the hits of a rule
+
+module _ (a b : Archive) (bench : List ℕ) (rule : Rule) (same : AgreeOn bench a b) where
+  hits_in_same : (key : List ℕ) (found : Option Found)
+      → hits_in a bench key rule found ≡ hits_in b bench key rule found
+  hits_in_same key None = refl
+  hits_in_same key (Some found) =
+      ap (λ row. by_profile rule key found.bytes
+      (profile_of (text_of (option_map (λ p. p.bytes) row))))
+      (profile_same a b bench same found.profile)
+
+  hits_at_same : (key : List ℕ) → hits_at a bench key rule ≡ hits_at b bench key rule
+  hits_at_same key =
+      hits_in_same key (option_map found_of (capture_at a bench key))
+      ∙ ap (λ row. hits_in b bench key rule (option_map found_of row))
+      (capture_same a b bench same key)
+
+  hits_over_same : (keys : List (List ℕ))
+      → hits_over a bench rule keys ≡ hits_over b bench rule keys
+  hits_over_same [] = refl
+  hits_over_same (key ∷ keys) =
+      ap (λ hits. joined hits (hits_over a bench rule keys)) (hits_at_same key)
+      ∙ ap (joined (hits_at b bench key rule)) (hits_over_same keys)
+
+  hits_same : hits_of a bench rule ≡ hits_of b bench rule
+  hits_same =
+      hits_over_same (keys_of a bench)
+      ∙ ap (λ (rows : List Capture). hits_over b bench rule (ascending (map (λ c. c.key) rows)))
+      same.captures
+
 pub own : (a b : Archive) (rest : List ℕ) (asked : Asked) → AgreeFor asked a b
     → (outcome_of a rest asked).answer ≡ (outcome_of b rest asked).answer
 own a b rest (put_profile bench name size) same =
@@ -186,4 +220,6 @@ own a b rest (get_verdicts bench key) same =
     verdicts_same a b bench key (option_map found_of (capture_at a bench key)) (same bench refl)
     ∙ ap (λ row. (verdicts_shown b bench key (option_map found_of row)).answer)
     (capture_same a b bench (same bench refl) key)
+own a b rest (get_hits bench rule) same =
+    ap (λ hits. Some (hits_answer bench rule hits)) (hits_same a b bench rule (same bench refl))
 own a b rest (refused refusal) same = refl

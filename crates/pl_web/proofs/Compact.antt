@@ -1,5 +1,6 @@
 -- The compact text of each body.
-use Rattle.std.proofs.Common.{◌≡◌, ℕ, List, codes, append_assoc, refl}
+use Rattle.std.proofs.Common.{◌≡◌, ℕ, List, ◌++◌, codes, append_assoc, refl, ap, sym, ◌∙◌}
+use Rattle.std.specs.Prelude.{decimal}
 use Rattle.json.specs.Print.{quoted}
 use Rattle.serde_json.specs.Data.{number, unsigned, string, object, member, no_members}
 use Rattle.serde_json.specs.Written.{compact_text}
@@ -9,12 +10,18 @@ use Rattle.pl_keeper.specs.Listing.{Line}
 use Rattle.pl_report.specs.Json.{verdicts_object}
 use Rattle.pl_web.specs.Bodies.{difference_body, error_body, limit_body, number_body, profile_body}
 use Rattle.pl_web.specs.Bodies.{item_body, item_limit_body, capture_body, verdicts_body}
-use Rattle.pl_web.specs.Bodies.{line_object}
+use Rattle.pl_search.specs.declared.hit.Hit.{Hit}
+use Rattle.pl_web.specs.Bodies.{line_object, hit_object}
 
 -- a text alone
 pub string_compact : (word : List ℕ) → compact_text (string word) ≡ quoted word
 unfolding serde_json_on_literals
 string_compact word = refl
+
+-- a count alone
+pub count_compact : (count : ℕ) → compact_text (number (unsigned count)) ≡ decimal count
+unfolding serde_json_on_literals
+count_compact count = refl
 
 pub error_compact : (name : List ℕ)
     → compact_text (object (member (codes "error") (string name) no_members)) ≡ error_body name
@@ -84,6 +91,17 @@ pub line_compact : (line : Line)
     ≡ line_object line
 unfolding serde_json_on_literals line_object
 line_compact line = simp append_assoc
+
+pub hit_compact : (hit : Hit)
+    → compact_text (object (member (codes "at") (number (unsigned hit.at))
+    (member (codes "key") (string hit.key) no_members)))
+    ≡ hit_object hit
+unfolding serde_json_on_literals hit_object
+hit_compact hit =
+    let key = codes ",\"key\":" in
+    sym (ap (λ text. codes "{\"at\":" ++ text)
+    (append_assoc (decimal hit.at ++ key) (quoted hit.key) (codes "}")
+    ∙ append_assoc (decimal hit.at) key (quoted hit.key ++ codes "}")))
 
 pub verdicts_same : (bench key : List ℕ) (judged : Judged)
     → verdicts_object bench key judged

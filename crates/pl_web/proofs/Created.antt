@@ -24,7 +24,7 @@ use Rattle.pl_web.specs.Laws.{is_created}
 use Rattle.pl_web.specs.Outcome.{outcome, outcome_of}
 use Rattle.pl_web.specs.Puts.{put_answer, profile_sent, capture_found, capture_sent}
 use Rattle.pl_web.specs.Requests.{Asked, asked_by, put_profile, put_capture, list_captures}
-use Rattle.pl_web.specs.Requests.{get_capture, get_verdicts, refused}
+use Rattle.pl_web.specs.Requests.{get_capture, get_verdicts, get_hits, refused}
 
 -- a reply other than 201, and the archive as it was
 abbrev LeavesUnlessCreated : Archive → Outcome → Type 0
@@ -96,6 +96,7 @@ module _ (a : Archive) where
       shown_leaves (option_map found_of (capture_at a bench key))
   leaves_of rest (get_verdicts bench key) = λ other.
       verdicts_shown_leave bench key (option_map found_of (capture_at a bench key))
+  leaves_of rest (get_hits bench rule) = λ other. refl
   leaves_of rest (refused refusal) = λ other. refl
 
   pub only_created : (text : List ℕ) (front : Front)

@@ -1,104 +1,24 @@
 -- The router finds the kind that the segments of the path name.
-use Rattle.std.proofs.Common.{◌≡◌, ℕ, suc, ◌<◌, List, [], ◌∷◌, ◌++◌, Bool, true, false, cond}
+use Rattle.std.proofs.Common.{◌≡◌, ℕ, suc, ◌<◌, List, [], ◌∷◌, Bool, true, false, cond}
 use Rattle.std.proofs.Common.{get_or, refl, ap, sym, ◌∙◌, subst, arith}
 use Rattle.std.specs.Prelude.{Option, Some, None, option_map, codes, ◌==◌, ◌&&◌, bytes_eq}
 use Rattle.std.proofs.lemmas.Bool.Decides.{nat_tests, Decides-eqb}
-use Rattle.matchit.specs.Rows.{RowsOf, param_token}
 use Rattle.matchit.specs.Seek.{first, seek, step}
-use Rattle.matchit.specs.Router.{RouteOf}
-use Rattle.matchit.proofs.OnLiterals.{matchit_on_literals}
 use Rattle.pl_web.specs.Paths.{slash, is_filled, segments_of, kind_of_key, kind_of_captures}
-use Rattle.pl_web.specs.Paths.{segments_behind, kind_of_profile, kind_of_profiles, kind_of_bench}
-use Rattle.pl_web.specs.Paths.{kind_of}
+use Rattle.pl_web.specs.Paths.{segments_behind, kind_of_profile, kind_of_profiles, kind_of_rules}
+use Rattle.pl_web.specs.Paths.{kind_of_bench, kind_of}
 use Rattle.pl_web.specs.Router.{all_routes}
 use Rattle.pl_web.specs.declared.routes.Kind.{Kind}
-use Rattle.pl_web.specs.declared.routes.Kind.TheVariants.{PutProfile, PutCapture, ListCaptures}
-use Rattle.pl_web.specs.declared.routes.Kind.TheVariants.{GetCapture, GetVerdicts}
+use Rattle.pl_web.specs.declared.routes.Kind.TheVariants.{PutCapture}
 use Rattle.pl_web.proofs.Parts.{part_by, first_part, segments_by_part}
 use Rattle.pl_web.proofs.Parts.{AreBytes, AreBytesIfAny, more_are_bytes}
 use Rattle.pl_web.proofs.Steps.{under, level, seek_nothing, seek_end, seek_byte}
 use Rattle.pl_web.proofs.Levels.{goes_on, seek_word, seek_name}
-
-abbrev pub Route : Type 0
-Route = RouteOf Kind
-
--- ---- the routes
-
-put_profile_route : Route
-put_profile_route = record {
-  pattern = codes "/benches/" ++ param_token ∷ codes "/profiles/" ++ param_token ∷ [];
-  text = codes "/benches/{bench}/profiles/{profile}";
-  names = (10, 15) ∷ (27, 34) ∷ [];
-  value = PutProfile;
-}
-
-put_capture_route : Route
-put_capture_route = record {
-  pattern = codes "/benches/" ++ param_token ∷ codes "/profiles/" ++ param_token
-      ∷ codes "/captures/" ++ param_token ∷ [];
-  text = codes "/benches/{bench}/profiles/{profile}/captures/{key}";
-  names = (10, 15) ∷ (27, 34) ∷ (46, 49) ∷ [];
-  value = PutCapture;
-}
-
-list_route : Route
-list_route = record {
-  pattern = codes "/benches/" ++ param_token ∷ codes "/captures";
-  text = codes "/benches/{bench}/captures";
-  names = (10, 15) ∷ [];
-  value = ListCaptures;
-}
-
-capture_route : Route
-capture_route = record {
-  pattern = codes "/benches/" ++ param_token ∷ codes "/captures/" ++ param_token ∷ [];
-  text = codes "/benches/{bench}/captures/{key}";
-  names = (10, 15) ∷ (27, 30) ∷ [];
-  value = GetCapture;
-}
-
-verdicts_route : Route
-verdicts_route = record {
-  pattern = codes "/benches/" ++ param_token ∷ codes "/captures/" ++ param_token
-      ∷ codes "/verdicts";
-  text = codes "/benches/{bench}/captures/{key}/verdicts";
-  names = (10, 15) ∷ (27, 30) ∷ [];
-  value = GetVerdicts;
-}
-
--- ---- the rows, segment by segment
-
-abbrev verdict_rows : RowsOf Route
-verdict_rows = under (codes "verdicts") (level (Some verdicts_route) [])
-
-abbrev key_rows : RowsOf Route
-key_rows = under (param_token ∷ []) (level (Some capture_route) verdict_rows)
-
-abbrev upload_rows : RowsOf Route
-upload_rows = under (param_token ∷ []) (level (Some put_capture_route) [])
-
-abbrev profile_rows : RowsOf Route
-profile_rows = under (codes "captures") (level None upload_rows)
-
-abbrev name_rows : RowsOf Route
-name_rows = under (param_token ∷ []) (level (Some put_profile_route) profile_rows)
-
-abbrev capture_rows : RowsOf Route
-capture_rows = under (codes "captures") (level (Some list_route) key_rows)
-
-abbrev bench_rows : RowsOf Route
-bench_rows = capture_rows ++ under (codes "profiles") (level None name_rows)
-
-abbrev name_of_bench_rows : RowsOf Route
-name_of_bench_rows = under (param_token ∷ []) (level None bench_rows)
-
-abbrev benches_rows : RowsOf Route
-benches_rows = under (codes "benches") (level None name_of_bench_rows)
-
-routes_are : all_routes ≡ under [] (level None benches_rows)
-unfolding matchit_on_literals all_routes put_profile_route put_capture_route list_route
-    capture_route verdicts_route
-routes_are = refl
+use Rattle.pl_web.proofs.RouteRows.{Route, put_profile_route, put_capture_route, list_route}
+use Rattle.pl_web.proofs.RouteRows.{capture_route, verdicts_route, hits_route, verdict_rows}
+use Rattle.pl_web.proofs.RouteRows.{key_rows, upload_rows, profile_rows, name_rows, capture_rows}
+use Rattle.pl_web.proofs.RouteRows.{rule_rows, bench_rows, name_of_bench_rows, benches_rows}
+use Rattle.pl_web.proofs.RouteRows.{routes_are}
 
 -- ---- their kinds
 
@@ -217,71 +137,113 @@ behind_profiles : (rest : Option (List ℕ)) → AreBytesIfAny rest
 behind_profiles None all = refl
 behind_profiles (Some rest) all = name_found rest all
 
--- ---- captures or profiles
+at_rule : (rule : List ℕ) (rest : Option (List ℕ))
+    → cond (is_filled rule) (kind_found (goes_on (Some hits_route) [] rest)) None
+    ≡ kind_of_rules (rule ∷ segments_behind rest)
+unfolding hits_route
+at_rule rule None = refl
+at_rule rule (Some rest) =
+    ap (λ found. cond (is_filled rule) (kind_found found) None)
+    (seek_nothing {K = Route} 0 rest)
+    ∙ none_either_way (is_filled rule)
+    ∙ ap (λ segments. kind_of_rules (rule ∷ segments)) (sym (segments_by_part rest))
 
-abbrev either : List ℕ × Option (List ℕ) → Option Route
-either part =
+rule_found : Finds (seek 0 rule_rows) kind_of_rules
+rule_found text all =
+    ap kind_found (seek_name (Some hits_route) [] text all)
+    ∙ kind_if (is_filled (first_part text).0) _
+    ∙ at_rule (first_part text).0 (first_part text).1
+    ∙ ap kind_of_rules (sym (segments_by_part text))
+
+behind_rules : (rest : Option (List ℕ)) → AreBytesIfAny rest
+    → kind_found (goes_on None rule_rows rest) ≡ kind_of_rules (segments_behind rest)
+behind_rules None all = refl
+behind_rules (Some rest) all = rule_found rest all
+
+-- ---- captures, profiles or rules
+
+abbrev one_of : List ℕ × Option (List ℕ) → Option Route
+one_of part =
     cond (bytes_eq part.0 (codes "captures")) (goes_on (Some list_route) key_rows part.1)
-    (cond (bytes_eq part.0 (codes "profiles")) (goes_on None name_rows part.1) None)
+    (cond (bytes_eq part.0 (codes "profiles")) (goes_on None name_rows part.1)
+    (cond (bytes_eq part.0 (codes "rules")) (goes_on None rule_rows part.1) None))
 
-either_captures : (path : List ℕ)
+of_captures : (path : List ℕ)
     → cond (bytes_eq (first_part (99 ∷ path)).0 (codes "captures"))
     (goes_on (Some list_route) key_rows (first_part (99 ∷ path)).1) None
-    ≡ either (first_part (99 ∷ path))
-either_captures path = refl
+    ≡ one_of (first_part (99 ∷ path))
+of_captures path = refl
 
-either_profiles : (path : List ℕ)
+of_profiles : (path : List ℕ)
     → cond (bytes_eq (first_part (112 ∷ path)).0 (codes "profiles"))
     (goes_on None name_rows (first_part (112 ∷ path)).1) None
-    ≡ either (first_part (112 ∷ path))
-either_profiles path = refl
+    ≡ one_of (first_part (112 ∷ path))
+of_profiles path = refl
 
-neither : (b : ℕ) (path : List ℕ) → (b == 99) ≡ false → (b == 112) ≡ false
-    → either (first_part (b ∷ path)) ≡ None
-neither b path no_c no_p = elim (b == slash) as (λ here.
-    either (part_by here b path (first_part path)) ≡ None)
-    [ true ↦ refl | false ↦ rw (no_c, no_p) refl ]
+of_rules : (path : List ℕ)
+    → cond (bytes_eq (first_part (114 ∷ path)).0 (codes "rules"))
+    (goes_on None rule_rows (first_part (114 ∷ path)).1) None
+    ≡ one_of (first_part (114 ∷ path))
+of_rules path = refl
 
-by_byte : (b : ℕ) (path : List ℕ) (c p : Bool) → (99 == b) ≡ c → (112 == b) ≡ p
-    → seek 0 (step b bench_rows) path ≡ either (first_part (b ∷ path))
-by_byte b path true p is_c is_p =
+none_of : (b : ℕ) (path : List ℕ) → (b == 99) ≡ false → (b == 112) ≡ false
+    → (b == 114) ≡ false → one_of (first_part (b ∷ path)) ≡ None
+none_of b path no_c no_p no_r = elim (b == slash) as (λ here.
+    one_of (part_by here b path (first_part path)) ≡ None)
+    [ true ↦ refl | false ↦ rw (no_c, no_p, no_r) refl ]
+
+by_byte : (b : ℕ) (path : List ℕ) (c p r : Bool)
+    → (99 == b) ≡ c → (112 == b) ≡ p → (114 == b) ≡ r
+    → seek 0 (step b bench_rows) path ≡ one_of (first_part (b ∷ path))
+by_byte b path true p r is_c is_p is_r =
     let same : 99 ≡ b = (Decides-eqb 99 b).0 is_c in
-    subst (λ x. seek 0 (step x bench_rows) path ≡ either (first_part (x ∷ path))) same
+    subst (λ x. seek 0 (step x bench_rows) path ≡ one_of (first_part (x ∷ path))) same
     (sym (seek_byte capture_rows 99 path refl refl)
     ∙ seek_word (Some list_route) key_rows (codes "captures") (99 ∷ path) refl
-    ∙ either_captures path)
-by_byte b path false true is_c is_p =
+    ∙ of_captures path)
+by_byte b path false true r is_c is_p is_r =
     let same : 112 ≡ b = (Decides-eqb 112 b).0 is_p in
-    subst (λ x. seek 0 (step x bench_rows) path ≡ either (first_part (x ∷ path))) same
+    subst (λ x. seek 0 (step x bench_rows) path ≡ one_of (first_part (x ∷ path))) same
     (sym (seek_byte (under (codes "profiles") (level None name_rows)) 112 path refl refl)
     ∙ seek_word None name_rows (codes "profiles") (112 ∷ path) refl
-    ∙ either_profiles path)
-by_byte b path false false is_c is_p =
-    rw (is_c, is_p) (seek_nothing {K = Route} 0 path)
-    ∙ sym (neither b path (grind (arith, nat_tests)) (grind (arith, nat_tests)))
+    ∙ of_profiles path)
+by_byte b path false false true is_c is_p is_r =
+    let same : 114 ≡ b = (Decides-eqb 114 b).0 is_r in
+    subst (λ x. seek 0 (step x bench_rows) path ≡ one_of (first_part (x ∷ path))) same
+    (sym (seek_byte (under (codes "rules") (level None rule_rows)) 114 path refl refl)
+    ∙ seek_word None rule_rows (codes "rules") (114 ∷ path) refl
+    ∙ of_rules path)
+by_byte b path false false false is_c is_p is_r =
+    rw (is_c, is_p, is_r) (seek_nothing {K = Route} 0 path)
+    ∙ sym (none_of b path (grind (arith, nat_tests)) (grind (arith, nat_tests))
+    (grind (arith, nat_tests)))
 
-seek_either : (text : List ℕ) → seek 0 bench_rows text ≡ either (first_part text)
-seek_either [] = seek_end bench_rows
-seek_either (b ∷ path) =
-    seek_byte bench_rows b path refl refl ∙ by_byte b path (99 == b) (112 == b) refl refl
+seek_one : (text : List ℕ) → seek 0 bench_rows text ≡ one_of (first_part text)
+seek_one [] = seek_end bench_rows
+seek_one (b ∷ path) =
+    seek_byte bench_rows b path refl refl
+    ∙ by_byte b path (99 == b) (112 == b) (114 == b) refl refl refl
 
-if_either : (c p : Bool) (captures profiles : Option Route) (x y : Option Kind)
-    → kind_found captures ≡ x → kind_found profiles ≡ y
-    → kind_found (cond c captures (cond p profiles None)) ≡ cond c x (cond p y None)
-if_either true p captures profiles x y first second = first
-if_either false true captures profiles x y first second = second
-if_either false false captures profiles x y first second = refl
+if_one : (c p r : Bool) (captures profiles rules : Option Route) (x y z : Option Kind)
+    → kind_found captures ≡ x → kind_found profiles ≡ y → kind_found rules ≡ z
+    → kind_found (cond c captures (cond p profiles (cond r rules None)))
+    ≡ cond c x (cond p y (cond r z None))
+if_one true p r captures profiles rules x y z first second third = first
+if_one false true r captures profiles rules x y z first second third = second
+if_one false false true captures profiles rules x y z first second third = third
+if_one false false false captures profiles rules x y z first second third = refl
 
-kind_of_either : (word : List ℕ) (rest : Option (List ℕ)) → AreBytesIfAny rest
-    → kind_found (either (word, rest)) ≡ kind_of_bench (word ∷ segments_behind rest)
-kind_of_either word rest all =
-    if_either (bytes_eq word (codes "captures")) (bytes_eq word (codes "profiles")) _ _ _ _
-    (behind_captures rest all) (behind_profiles rest all)
+kind_of_one : (word : List ℕ) (rest : Option (List ℕ)) → AreBytesIfAny rest
+    → kind_found (one_of (word, rest)) ≡ kind_of_bench (word ∷ segments_behind rest)
+kind_of_one word rest all =
+    if_one (bytes_eq word (codes "captures")) (bytes_eq word (codes "profiles"))
+    (bytes_eq word (codes "rules")) _ _ _ _ _ _
+    (behind_captures rest all) (behind_profiles rest all) (behind_rules rest all)
 
 bench_found : Finds (seek 0 bench_rows) kind_of_bench
 bench_found text all =
-    ap kind_found (seek_either text)
-    ∙ kind_of_either (first_part text).0 (first_part text).1 (more_are_bytes text all)
+    ap kind_found (seek_one text)
+    ∙ kind_of_one (first_part text).0 (first_part text).1 (more_are_bytes text all)
     ∙ ap kind_of_bench (sym (segments_by_part text))
 
 behind_bench : (rest : Option (List ℕ)) → AreBytesIfAny rest

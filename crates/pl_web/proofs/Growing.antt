@@ -26,7 +26,7 @@ use Rattle.pl_web.specs.Laws.{AgreeOn, Grows, bench_of}
 use Rattle.pl_web.specs.Outcome.{with_body, outcome, outcome_of}
 use Rattle.pl_web.specs.Puts.{profile_sent, capture_found, capture_sent}
 use Rattle.pl_web.specs.Requests.{Asked, asked_by, put_profile, put_capture, list_captures}
-use Rattle.pl_web.specs.Requests.{get_capture, get_verdicts, refused}
+use Rattle.pl_web.specs.Requests.{get_capture, get_verdicts, get_hits, refused}
 
 -- ---- what holds of the rows as they were, and with one more, holds of those behind a request
 
@@ -124,6 +124,7 @@ module _ (a : Archive) (Holds : Archive → Type 0) (as_before : Holds a) where
       behind_shown (option_map found_of (capture_at a bench key))
   behind rest (get_verdicts bench key) profile capture =
       behind_verdicts bench key (option_map found_of (capture_at a bench key))
+  behind rest (get_hits bench rule) profile capture = as_before
   behind rest (refused refusal) profile capture = as_before
 
 -- ---- the rows of other benches stay

@@ -11,6 +11,8 @@ mod Once
 mod Parts
 mod Received
 mod Refused
+mod RouteRows
 mod Sent
 mod Steps
 mod Texts
+mod Unstored

@@ -1,17 +1,17 @@
 -- What became of a link, by the status of its reply.
 use Rattle.std.proofs.Common.{◌≡◌, ◌≢◌, ℕ, ◌<◌, ◌≤◌, List, [], ◌++◌, length, Bool, true, false}
 use Rattle.std.proofs.Common.{arith, refl, sym, subst, ap, ◌∙◌, ◌⊎◌, inl, inr, eqb}
-use Rattle.std.specs.Prelude.{Option, Some, None, IsSome}
+use Rattle.std.specs.Prelude.{Option, Some, IsSome}
 use Rattle.std.proofs.lemmas.Bool.{false≢true}
 use Rattle.std.proofs.lemmas.Bool.Decides.{Decides-eqb}
-use Rattle.pl_head.specs.Reply.{code_of, reply_bytes}
+use Rattle.pl_head.specs.Reply.{reply_bytes}
 use Rattle.pl_io.specs.Faults.{Rose, last_count}
 use Rattle.pl_io.specs.Links.{Coming, Closed}
 use Rattle.pl_io.specs.Told.{plus}
 use Rattle.pl_keeper.specs.Archive.{Archive}
 use Rattle.pl_web.specs.Outcome.{outcome}
 use Rattle.pl_web.specs.Served.{EndsEarly, Grew, IsSent, Replies, Sends, memory_reply, store_reply}
-use Rattle.pl_web.specs.Turns.{Fills, Serves, Turn, Turned, answered, ended, failed, wanting}
+use Rattle.pl_web.specs.Turns.{Fills, Serves, Turned, answered, ended, failed, wanting}
 use Rattle.pl_web.specs.declared.serve.Served.{Served}
 
 some_is : {A : Type 0} {x y : A} → Some x ≡ Some y → x ≡ y

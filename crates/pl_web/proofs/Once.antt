@@ -7,11 +7,8 @@ use Rattle.std.specs.Option.{option_or}
 use Rattle.std.specs.List.{find}
 use Rattle.std.proofs.lemmas.List.Folds.{find-append}
 use Rattle.std.proofs.lemmas.Slice.Eq.{bytes_eq-Decides}
-use Rattle.pl_base.specs.declared.stop.Stop.{Stop}
-use Rattle.pl_base.specs.declared.stop.Stop.TheVariants.{Malformed, Unsupported, Outstanding}
-use Rattle.pl_base.specs.declared.stop.Stop.TheVariants.{Unacknowledged, Memory}
 use Rattle.pl_capture.specs.Reading.{reading}
-use Rattle.pl_engine.specs.Judged.{judged_items, judged_verdicts, stop_of_reading}
+use Rattle.pl_engine.specs.Judged.{judged_items, judged_verdicts}
 use Rattle.pl_head.specs.declared.status.Status.TheVariants.{Success}
 use Rattle.pl_keeper.specs.Archive.{Archive, Profile, Capture, profile_at, capture_at}
 use Rattle.pl_keeper.specs.Archive.{is_profile, is_capture, profiles_of, captures_of}
@@ -27,14 +24,14 @@ use Rattle.pl_profile.specs.declared.error.ProfileError.{ProfileError}
 use Rattle.pl_profile.specs.declared.profile.Profile.{Profile as PortProfile}
 use Rattle.pl_web.specs.Answer.{Answer, Outcome, json, unanswered}
 use Rattle.pl_web.specs.Bodies.{profile_body, capture_body}
-use Rattle.pl_web.specs.Judging.{Finding, judged, unjudged, by_stop, by_profile, finding}
-use Rattle.pl_web.specs.Judging.{stop_answer}
+use Rattle.pl_web.specs.Judging.{Finding, judged, unjudged, finding}
 use Rattle.pl_web.specs.Laws.{ActsOnce, Grows, is_stored, is_upload}
 use Rattle.pl_web.specs.Outcome.{outcome_of}
 use Rattle.pl_web.specs.Puts.{put_answer, profile_stored, profile_sent, capture_stored}
 use Rattle.pl_web.specs.Puts.{capture_found, capture_sent}
+use Rattle.pl_web.proofs.Unstored.{IsUnstored, unstored}
 use Rattle.pl_web.specs.Requests.{Asked, put_profile, put_capture, list_captures}
-use Rattle.pl_web.specs.Requests.{get_capture, get_verdicts, refused}
+use Rattle.pl_web.specs.Requests.{get_capture, get_verdicts, get_hits, refused}
 use Rattle.pl_web.proofs.Growing.{grows_none, grows_capture, grows_then, behind_found}
 
 some_is : {A : Type 0} {x y : A} → Some x ≡ Some y → x ≡ y
@@ -299,32 +296,6 @@ capture_once old now c items verdicts put answer is said stored grown =
           ∙ ap (λ (a : Answer). Some (record a { status = Success })) first;
     }
 
--- what isn't judged isn't stored
-abbrev IsUnstored : Finding → Type 0
-IsUnstored (judged profile) = Unit {0}
-IsUnstored (unjudged answer) = is_stored answer.status ≡ false
-
-unstored_stop : (stop : Stop) → IsUnstored (unjudged (stop_answer stop))
-unstored_stop (Malformed fault item) = refl
-unstored_stop (Unsupported form item) = refl
-unstored_stop (Outstanding limit item) = refl
-unstored_stop (Unacknowledged limit item) = refl
-unstored_stop Memory = refl
-
-unstored_by_stop : (profile : PortProfile) (stop : Option Stop) → IsUnstored (by_stop profile stop)
-unstored_by_stop profile None = tt
-unstored_by_stop profile (Some stop) = unstored_stop stop
-
-unstored_by_profile : (capture : List ℕ) (read : Result PortProfile ProfileError)
-    → IsUnstored (by_profile capture read)
-unstored_by_profile capture (Ok profile) =
-    unstored_by_stop profile (stop_of_reading profile (reading capture))
-unstored_by_profile capture (Err error) = refl
-
-unstored : (text : Option (List ℕ)) (capture : List ℕ) → IsUnstored (finding text capture)
-unstored None capture = refl
-unstored (Some text) capture = unstored_by_profile capture (profile_of text)
-
 found_once : (old now : Archive) (c : Capture) (f : Finding) (answer : Answer) → IsUnstored f
     → (capture_found old c f).answer ≡ Some answer → is_stored answer.status ≡ true
     → Grows (capture_found old c f).rows now → Repeats now answer (capture_found now c f)
@@ -397,4 +368,5 @@ once old now rest (put_capture bench profile key size) answer upload said stored
 once old now rest (list_captures bench) answer upload said stored grown = cc
 once old now rest (get_capture bench key) answer upload said stored grown = cc
 once old now rest (get_verdicts bench key) answer upload said stored grown = cc
+once old now rest (get_hits bench rule) answer upload said stored grown = cc
 once old now rest (refused refusal) answer upload said stored grown = cc

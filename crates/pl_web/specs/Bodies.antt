@@ -5,6 +5,7 @@ use Rattle.json.specs.Print.{quoted}
 use Rattle.pl_base.specs.declared.verdict.Verdict.{Verdict}
 use Rattle.pl_keeper.specs.Listing.{Line}
 use Rattle.pl_report.specs.Json.{objects}
+use Rattle.pl_search.specs.declared.hit.Hit.{Hit}
 
 -- what is wrong
 unfoldable pub error_body : List ℕ → List ℕ
@@ -77,3 +78,21 @@ unfoldable pub list_body : List ℕ → List Line → List ℕ
 list_body bench lines =
     codes "{\"bench\":" ++ quoted bench ++ codes ",\"captures\":[" ++ line_objects lines
     ++ codes "]}"
+
+-- a hit: which item of which capture
+unfoldable pub hit_object : Hit → List ℕ
+hit_object hit = codes "{\"at\":" ++ decimal hit.at ++ codes ",\"key\":" ++ quoted hit.key ++ codes "}"
+
+-- a hit behind another one
+abbrev pub next_hit : Hit → List ℕ
+next_hit hit = codes "," ++ hit_object hit
+
+abbrev pub hit_objects : List Hit → List ℕ
+hit_objects [] = []
+hit_objects (hit ∷ hits) = hit_object hit ++ flat_map next_hit hits
+
+-- how often the captures of a bench break a rule, and the first of the hits
+unfoldable pub hits_body : (bench rule : List ℕ) (total : ℕ) (hits : List Hit) → List ℕ
+hits_body bench rule total hits =
+    codes "{\"bench\":" ++ quoted bench ++ codes ",\"found\":[" ++ hit_objects hits
+    ++ codes "],\"rule\":" ++ quoted rule ++ codes ",\"total\":" ++ decimal total ++ codes "}"

@@ -6,7 +6,7 @@ use Rattle.pl_keeper.specs.Archive.{Archive, Profile, Capture, profiles_of, capt
 use Rattle.pl_web.specs.Answer.{Answer}
 use Rattle.pl_web.specs.Outcome.{outcome_of}
 use Rattle.pl_web.specs.Requests.{Asked, put_profile, put_capture, list_captures}
-use Rattle.pl_web.specs.Requests.{get_capture, get_verdicts, refused}
+use Rattle.pl_web.specs.Requests.{get_capture, get_verdicts, get_hits, refused}
 
 -- two archives have the same rows of a bench
 pub record AgreeOn (bench : List ℕ) (a b : Archive) : Type 0 where
@@ -20,6 +20,7 @@ bench_of (put_capture bench profile key size) = Some bench
 bench_of (list_captures bench) = Some bench
 bench_of (get_capture bench key) = Some bench
 bench_of (get_verdicts bench key) = Some bench
+bench_of (get_hits bench rule) = Some bench
 bench_of (refused refusal) = None
 
 abbrev pub AgreeFor : Asked → Archive → Archive → Type 0
@@ -39,6 +40,7 @@ is_upload (put_capture bench profile key size) = true
 is_upload (list_captures bench) = false
 is_upload (get_capture bench key) = false
 is_upload (get_verdicts bench key) = false
+is_upload (get_hits bench rule) = false
 is_upload (refused refusal) = false
 
 abbrev pub is_created_as : Status → Bool

@@ -3,6 +3,7 @@ pub mod Answers
 pub mod Bodies
 pub mod Ended
 pub mod Gets
+pub mod Hits
 pub mod Judged
 pub mod Judging
 pub mod Laws
@@ -14,6 +15,7 @@ pub mod Received
 pub mod Refusals
 pub mod Requests
 pub mod Router
+pub mod Searched
 pub mod Served
 pub mod Statuses
 pub mod Turns

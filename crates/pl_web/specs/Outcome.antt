@@ -12,10 +12,11 @@ use Rattle.pl_profile.specs.ProfileOf.{profile_of}
 use Rattle.pl_web.specs.Answer.{Outcome, json, leaves, unanswered}
 use Rattle.pl_web.specs.Bodies.{error_body, limit_body}
 use Rattle.pl_web.specs.Gets.{captures_listed, capture_shown, verdicts_shown}
+use Rattle.pl_web.specs.Hits.{hits_shown}
 use Rattle.pl_web.specs.Puts.{profile_sent, capture_sent}
 use Rattle.pl_web.specs.Refusals.{status_of, body_of}
 use Rattle.pl_web.specs.Requests.{Asked, asked_by, put_profile, put_capture, list_captures}
-use Rattle.pl_web.specs.Requests.{get_capture, get_verdicts, refused}
+use Rattle.pl_web.specs.Requests.{get_capture, get_verdicts, get_hits, refused}
 
 -- with a body of so many bytes at the front of what follows the head, or none where the peer ends
 -- within it
@@ -34,6 +35,7 @@ outcome_of a rest (get_capture bench key) =
     capture_shown a (option_map found_of (capture_at a bench key))
 outcome_of a rest (get_verdicts bench key) =
     verdicts_shown a bench key (option_map found_of (capture_at a bench key))
+outcome_of a rest (get_hits bench rule) = hits_shown a bench rule
 outcome_of a rest (refused refusal) = leaves a (json (status_of refusal) (body_of refusal))
 
 -- of the whole text of a connection, by how it begins

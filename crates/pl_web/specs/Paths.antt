@@ -3,7 +3,7 @@ use Rattle.std.specs.Prelude.{ℕ, List, [], ◌∷◌, codes, Bool, true, false
 use Rattle.std.specs.Prelude.{bytes_eq, if◌then◌else◌, Option, Some, None}
 use Rattle.pl_web.specs.declared.routes.Kind.{Kind}
 use Rattle.pl_web.specs.declared.routes.Kind.TheVariants.{PutProfile, PutCapture, ListCaptures}
-use Rattle.pl_web.specs.declared.routes.Kind.TheVariants.{GetCapture, GetVerdicts}
+use Rattle.pl_web.specs.declared.routes.Kind.TheVariants.{GetCapture, GetVerdicts, GetHits}
 
 -- the code of `/`
 abbrev pub slash : ℕ
@@ -55,12 +55,19 @@ kind_of_profiles [] = None
 kind_of_profiles (profile ∷ segments) =
     if is_filled profile then kind_of_profile segments else None
 
--- behind the name of a bench: `captures` or `profiles`
+-- behind `rules`: a rule
+abbrev pub kind_of_rules : List (List ℕ) → Option Kind
+kind_of_rules [] = None
+kind_of_rules (rule ∷ []) = if is_filled rule then Some GetHits else None
+kind_of_rules (rule ∷ next ∷ segments) = None
+
+-- behind the name of a bench: `captures`, `profiles` or `rules`
 abbrev pub kind_of_bench : List (List ℕ) → Option Kind
 kind_of_bench [] = None
 kind_of_bench (word ∷ segments) =
     if bytes_eq word (codes "captures") then kind_of_captures segments
-    else (if bytes_eq word (codes "profiles") then kind_of_profiles segments else None)
+    else (if bytes_eq word (codes "profiles") then kind_of_profiles segments
+    else (if bytes_eq word (codes "rules") then kind_of_rules segments else None))
 
 -- a slash in front, then `benches` and a name
 abbrev pub kind_of : List (List ℕ) → Option Kind

@@ -1,29 +1,32 @@
 -- What a request with a whole head asks for, or why it is refused before anything is looked up.
 use Rattle.std.specs.Prelude.{ℕ, ◌≤◌, List, [], get_or, nat_lt, bytes_eq}
 use Rattle.std.specs.Prelude.{if◌then◌else◌, Option, Some, None, Result, Ok, Err}
+use Rattle.pl_base.specs.declared.rule.Rule.{Rule}
 use Rattle.pl_head.specs.Reply.{method_name}
 use Rattle.pl_head.specs.declared.form.Form.{Form}
 use Rattle.pl_head.specs.declared.form.Form.TheVariants.{Refused as FormRefused, Without, Length}
 use Rattle.pl_head.specs.declared.status.Method.{Method}
 use Rattle.pl_head.specs.declared.status.Method.TheVariants.{Get, Put}
+use Rattle.pl_report.specs.Summary.{named}
 use Rattle.pl_web.specs.Names.{is_name}
 use Rattle.pl_web.specs.Refusals.{longest_body}
 use Rattle.pl_web.specs.Paths.{kind_of, segments_of}
 use Rattle.pl_web.specs.declared.routes.Kind.{Kind}
 use Rattle.pl_web.specs.declared.routes.Kind.TheVariants.{PutProfile, PutCapture, ListCaptures}
-use Rattle.pl_web.specs.declared.routes.Kind.TheVariants.{GetCapture, GetVerdicts}
+use Rattle.pl_web.specs.declared.routes.Kind.TheVariants.{GetCapture, GetVerdicts, GetHits}
 use Rattle.pl_web.specs.declared.refusal.Refusal.{Refusal}
 use Rattle.pl_web.specs.declared.refusal.Refusal.TheVariants.{Framing, Route, WrongMethod, Name}
-use Rattle.pl_web.specs.declared.refusal.Refusal.TheVariants.{NoLength, TooLong}
+use Rattle.pl_web.specs.declared.refusal.Refusal.TheVariants.{NoRule, NoLength, TooLong}
 use Rattle.pl_web.specs.declared.request.Request.{Request}
 use Rattle.pl_web.specs.declared.request.Request.TheVariants as code
 
--- what is asked for: of a bench, a profile and a key, and with how many bytes
+-- what is asked for: of a bench, a profile, a key or a rule, and with how many bytes
 pub data Asked : Type 0 where
   put_profile : (bench profile : List ℕ) (size : ℕ) → Asked
   put_capture : (bench profile key : List ℕ) (size : ℕ) → Asked
   list_captures : (bench : List ℕ) → Asked
   get_capture get_verdicts : (bench key : List ℕ) → Asked
+  get_hits : (bench : List ℕ) (rule : Rule) → Asked
   refused : Refusal → Asked
 
 -- the one method of a route
@@ -33,6 +36,7 @@ method_of PutCapture = Put
 method_of ListCaptures = Get
 method_of GetCapture = Get
 method_of GetVerdicts = Get
+method_of GetHits = Get
 
 -- a body has a length within the limit
 abbrev pub length_by : Form → Result ℕ Refusal
@@ -47,6 +51,11 @@ with_length (Err refusal) asked = refused refusal
 -- each name is one
 abbrev pub with_name : List ℕ → Asked → Asked
 with_name text asked = if is_name text then asked else refused Name
+
+-- a rule is one of the 49
+abbrev pub with_rule : Option Rule → (Rule → Asked) → Asked
+with_rule None asked = refused NoRule
+with_rule (Some rule) asked = asked rule
 
 abbrev pub asked_of_kind : (List (List ℕ)) → Form → Kind → Asked
 asked_of_kind segments form PutProfile =
@@ -70,6 +79,10 @@ asked_of_kind segments form GetVerdicts =
     let bench = get_or segments 2 [] in
     let key = get_or segments 4 [] in
     with_name bench (with_name key (get_verdicts bench key))
+asked_of_kind segments form GetHits =
+    let bench = get_or segments 2 [] in
+    let rule = get_or segments 4 [] in
+    with_name bench (with_rule (named rule) (get_hits bench))
 
 -- the route has the method
 abbrev pub asked_of_route : List (List ℕ) → List ℕ → Form → Option Kind → Asked
@@ -79,7 +92,7 @@ asked_of_route segments method form (Some kind) =
     else refused (WrongMethod (method_of kind))
 
 -- The first that applies: the fields of the head frame no body; the path has no route; the route
--- has another method; a name isn't one; a body has no length, or is too long.
+-- has another method; a name isn't one; a rule isn't one; a body has no length, or is too long.
 abbrev pub asked_by : List ℕ → List ℕ → Form → Asked
 asked_by method target FormRefused = refused Framing
 asked_by method target Without =
@@ -95,6 +108,7 @@ asked_in (Ok (code.PutCapture bench profile key size)) =
 asked_in (Ok (code.ListCaptures bench)) = list_captures bench.now
 asked_in (Ok (code.GetCapture bench key)) = get_capture bench.now key.now
 asked_in (Ok (code.GetVerdicts bench key)) = get_verdicts bench.now key.now
+asked_in (Ok (code.GetHits bench rule)) = get_hits bench.now rule
 asked_in (Err refusal) = refused refusal
 
 -- its body is no longer than one may be
@@ -104,3 +118,4 @@ HasShortBody (code.PutCapture bench profile key size) = size ≤ longest_body
 HasShortBody (code.ListCaptures bench) = Unit {0}
 HasShortBody (code.GetCapture bench key) = Unit {0}
 HasShortBody (code.GetVerdicts bench key) = Unit {0}
+HasShortBody (code.GetHits bench rule) = Unit {0}

@@ -7,7 +7,7 @@ use Rattle.matchit.specs.Router.{RouteOf, route_from}
 use Rattle.matchit.specs.declared.error.InsertError.{InsertError}
 use Rattle.pl_web.specs.declared.routes.Kind.{Kind}
 use Rattle.pl_web.specs.declared.routes.Kind.TheVariants.{PutProfile, PutCapture, ListCaptures}
-use Rattle.pl_web.specs.declared.routes.Kind.TheVariants.{GetCapture, GetVerdicts}
+use Rattle.pl_web.specs.declared.routes.Kind.TheVariants.{GetCapture, GetVerdicts, GetHits}
 
 -- with one route more, where it could be read
 abbrev pub with_read : Kind → RowsOf (RouteOf Kind) → Result Scan InsertError
@@ -20,8 +20,9 @@ with_route text kind rows = with_read kind rows (parse_route text)
 
 unfoldable pub all_routes : RowsOf (RouteOf Kind)
 all_routes =
-    with_route (codes "/benches/{bench}/captures/{key}/verdicts") GetVerdicts
+    with_route (codes "/benches/{bench}/rules/{rule}") GetHits
+    (with_route (codes "/benches/{bench}/captures/{key}/verdicts") GetVerdicts
     (with_route (codes "/benches/{bench}/captures/{key}") GetCapture
     (with_route (codes "/benches/{bench}/captures") ListCaptures
     (with_route (codes "/benches/{bench}/profiles/{profile}/captures/{key}") PutCapture
-    (with_route (codes "/benches/{bench}/profiles/{profile}") PutProfile []))))
+    (with_route (codes "/benches/{bench}/profiles/{profile}") PutProfile [])))))

@@ -12,6 +12,7 @@ ghost use Rattle.pl_web.specs.Requests.{HasShortBody, asked_by, asked_in};
 use crate::body::read_body;
 use crate::ended::Ended;
 use crate::gets::{list_captures, show_capture, show_verdicts};
+use crate::hits::show_hits;
 use crate::puts::{store_capture, store_profile};
 use crate::replies::refuse;
 use crate::reply::Reply;
@@ -129,6 +130,7 @@ fn answer_asked<C: Conn, K: Keeper>(
         Request::ListCaptures { bench } => list_captures(alloc, keeper, bench),
         Request::GetCapture { bench, key } => show_capture(alloc, keeper, bench, key),
         Request::GetVerdicts { bench, key } => show_verdicts(alloc, keeper, bench, key),
+        Request::GetHits { bench, rule } => show_hits(alloc, keeper, bench, rule),
     }
 }
 

@@ -8,14 +8,18 @@ ghost use Rattle.serde_json.specs.Written.{compact_text, has_float};
 ghost use Rattle.pl_web.specs.Bodies.{difference_body, error_body, limit_body};
 ghost use Rattle.pl_web.specs.Bodies.{capture_body, item_body, item_limit_body, line_object};
 ghost use Rattle.pl_web.specs.Bodies.{line_objects, list_body, next_line, number_body};
+ghost use Rattle.pl_web.specs.Bodies.{hit_object, hit_objects, hits_body, next_hit};
 ghost use Rattle.pl_web.specs.Bodies.{profile_body, verdicts_body};
-ghost use Rattle.std.specs.Prelude.{◌++◌, OnOk};
+ghost use Rattle.std.specs.Prelude.{◌++◌, OnOk, decimal};
 ghost use Rattle.std.specs.String.{string_bytes};
 ghost use Rattle.json.specs.Print.{quoted};
+ghost use Rattle.pl_base.specs.Rule.{name_of};
 
+use pl_base::Rule;
 use pl_engine::Judged;
 use pl_keeper::KeyRow;
 use pl_report::verdicts_json;
+use pl_search::{Hit, Search};
 use serde_json::{Value, json};
 use std::alloc::{AllocError, Global};
 
@@ -256,5 +260,78 @@ pub fn list(alloc: Global, bench: &str, rows: &[KeyRow]) -> Result<Vec<u8>, Allo
     text.extend_from_slice(b",\"captures\":[")?;
     push_lines(alloc, &mut text, rows)?;
     text.extend_from_slice(b"]}")?;
+    Ok(text)
+}
+
+fn count_value(alloc: Global, count: u64) -> Result<Value, AllocError>
+    ensures { IfOk result (λ value. view value ≡ number (unsigned count)) }
+{
+    json!(in alloc; count)
+}
+
+/// A count.
+fn count_of(alloc: Global, count: u64) -> Result<Vec<u8>, AllocError>
+    ensures { IfOk result (λ text. text.items ≡ decimal count) }
+{
+    print(alloc, &count_value(alloc, count)?)
+}
+
+fn hit_value(alloc: Global, at: u64, key: &str) -> Result<Value, AllocError>
+    ensures { IfOk result (λ value. view value ≡ object (member (codes "at") (number (unsigned at))
+        (member (codes "key") (string key.now) no_members))) }
+{
+    json!(in alloc; {"at": at, "key": key})
+}
+
+fn hit_of(alloc: Global, at: u64, key: &str) -> Result<Vec<u8>, AllocError>
+    ensures { IfOk result (λ body. body.items ≡ hit_object (record { key = key.now; at = at })) }
+{
+    print(alloc, &hit_value(alloc, at, key)?)
+}
+
+/// A hit: which item of which capture.
+fn hit(alloc: Global, hit: &Hit) -> Result<Vec<u8>, AllocError>
+    ensures { IfOk result (λ body. body.items ≡ hit_object hit.now) }
+{
+    hit_of(alloc, hit.at, hit.key.as_str())
+}
+
+/// Appends a hit behind another one.
+fn push_next_hit(alloc: Global, text: &mut Vec<u8>, next: &Hit) -> Result<(), AllocError>
+    ensures { OnOk result (text.new.items ≡ text.old.items ++ next_hit next.now) }
+{
+    text.extend_from_slice(b",")?;
+    text.extend_from_slice(&hit(alloc, next)?)
+}
+
+/// Appends hits, with commas between them.
+fn push_hits(alloc: Global, text: &mut Vec<u8>, hits: &[Hit]) -> Result<(), AllocError>
+    ensures { OnOk result (text.new.items ≡ text.old.items ++ hit_objects hits.now) }
+{
+    let Some((first, rest)) = hits.split_first() else {
+        return Ok(());
+    };
+    text.extend_from_slice(&hit(alloc, first)?)?;
+    for next in rest {
+        push_next_hit(alloc, text, next)?;
+    }
+    Ok(())
+}
+
+/// How often the captures of a bench break a rule, and the hits that are shown.
+#[tactic(auto, unfolding(crate::specs::Bodies::hits_body))]
+pub fn hits(alloc: Global, bench: &str, rule: Rule, search: &Search) -> Result<Vec<u8>, AllocError>
+    ensures { IfOk result (λ body. body.items
+        ≡ hits_body bench.now (name_of rule) search.now.total search.now.found) }
+{
+    let mut text = Vec::from_slice(alloc, b"{\"bench\":")?;
+    text.extend_from_slice(&quote(alloc, bench)?)?;
+    text.extend_from_slice(b",\"found\":[")?;
+    push_hits(alloc, &mut text, search.found.as_slice())?;
+    text.extend_from_slice(b"],\"rule\":")?;
+    text.extend_from_slice(&quote(alloc, rule.name())?)?;
+    text.extend_from_slice(b",\"total\":")?;
+    text.extend_from_slice(&count_of(alloc, search.total)?)?;
+    text.extend_from_slice(b"}")?;
     Ok(text)
 }

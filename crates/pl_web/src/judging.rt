@@ -53,7 +53,7 @@ pub(crate) fn refuse_profile(alloc: Global, error: ProfileError) -> Result<Reply
 }
 
 /// The reply to a capture that can't be judged to its end.
-fn refuse_stop(alloc: Global, stop: Stop) -> Result<Reply, Ended>
+pub(crate) fn refuse_stop(alloc: Global, stop: Stop) -> Result<Reply, Ended>
     ensures answer { AnswersWith (stop_answer stop) result }
     ensures judged { OnOk result (stop ≢ Stop.Memory) }
 {

@@ -6,6 +6,7 @@ pub mod bodies;
 mod body;
 mod ended;
 mod gets;
+mod hits;
 mod judging;
 pub mod laws;
 mod link;

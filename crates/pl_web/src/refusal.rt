@@ -20,6 +20,8 @@ pub enum Refusal {
     WrongMethod(Method),
     /// A name in its path isn't one.
     Name,
+    /// The rule in its path isn't one of the 49.
+    NoRule,
     /// It has a body, and no length of it.
     NoLength,
     /// Its body is longer than 4,194,304 bytes.
@@ -33,7 +35,7 @@ impl Refusal {
     {
         match self {
             Refusal::Framing | Refusal::Name => Status::BadRequest,
-            Refusal::Route => Status::NotFound,
+            Refusal::Route | Refusal::NoRule => Status::NotFound,
             Refusal::WrongMethod(method) => Status::MethodNotAllowed(method),
             Refusal::NoLength => Status::LengthRequired,
             Refusal::TooLong => Status::PayloadTooLarge,
@@ -49,6 +51,7 @@ impl Refusal {
             Refusal::Route => bodies::error(alloc, "route"),
             Refusal::WrongMethod(_) => bodies::error(alloc, "method"),
             Refusal::Name => bodies::error(alloc, "name"),
+            Refusal::NoRule => bodies::error(alloc, "rule"),
             Refusal::NoLength => bodies::error(alloc, "length required"),
             Refusal::TooLong => bodies::limit(alloc, "limit", LONGEST_BODY),
         }

@@ -1,7 +1,8 @@
 //! What a request asks for, by its method, its target and the form of its body.
 ghost use Rattle.std.specs.Prelude.{◌≡◌, ◌≤◌, get_or, [], true, false, bytes_eq, IfOk, IfErr};
-ghost use Rattle.std.specs.Prelude.{OnErr};
+ghost use Rattle.std.specs.Prelude.{OnErr, Some, None};
 ghost use Rattle.pl_head.specs.Reply.{method_name};
+ghost use Rattle.pl_report.specs.Summary.{named};
 ghost use Rattle.pl_web.specs.Names.{is_name as is_name_text};
 ghost use Rattle.pl_web.specs.Paths.{kind_of, segments_of};
 ghost use Rattle.pl_web.specs.Requests.{asked_by, asked_in, asked_of_kind, asked_of_route};
@@ -11,7 +12,9 @@ ghost use Rattle.pl_web.specs.Refusals.{longest_body};
 use crate::names::{is_name, segment};
 use crate::refusal::{LONGEST_BODY, Refusal};
 use crate::routes::{Kind, Routes};
+use pl_base::Rule;
 use pl_head::{Form, Method};
+use pl_report::rule_named;
 
 /// What a request asks for. Each name has 1 to 64 of the characters `a` to `z`, `0` to `9`, `_` and
 /// `-`; a length is the number of bytes of the body, at most 4,194,304.
@@ -44,6 +47,11 @@ pub enum Request<'t> {
         bench: &'t str,
         key: &'t str,
     },
+    /// Asks where the captures of a bench break a rule.
+    GetHits {
+        bench: &'t str,
+        rule: Rule,
+    },
 }
 
 impl Kind {
@@ -53,7 +61,8 @@ impl Kind {
     {
         match self {
             Kind::PutProfile | Kind::PutCapture => Method::Put,
-            Kind::ListCaptures | Kind::GetCapture | Kind::GetVerdicts => Method::Get,
+            Kind::ListCaptures | Kind::GetCapture | Kind::GetVerdicts | Kind::GetHits =>
+                Method::Get,
         }
     }
 }
@@ -80,6 +89,18 @@ fn name_at(path: &str, place: usize) -> Result<&str, Refusal>
         return Err(Refusal::Name);
     }
     Ok(name)
+}
+
+/// The rule at a place of a path.
+fn rule_at(path: &str, place: usize) -> Result<Rule, Refusal>
+    ensures rule { IfOk result (λ rule. named (get_or (segments_of path.now) place []) ≡ Some rule) }
+    ensures no_rule { OnErr result (named (get_or (segments_of path.now) place []) ≡ None) }
+    ensures err { IfErr result (λ refusal. refusal ≡ Refusal.NoRule) }
+{
+    match rule_named(segment(path, place)) {
+        Some(rule) => Ok(rule),
+        None => Err(Refusal::NoRule),
+    }
 }
 
 /// The length of a body that is sent.
@@ -136,6 +157,10 @@ fn request_of_kind(kind: Kind, target: &str, form: Form) -> Result<Request<'_>, 
             let key = name_at(target, 4)?;
             Ok(Request::GetVerdicts { bench, key })
         }
+        Kind::GetHits => {
+            let rule = rule_at(target, 4)?;
+            Ok(Request::GetHits { bench, rule })
+        }
     }
 }
 
@@ -162,8 +187,8 @@ fn request_of_target<'t>(
 
 /// What a request with a whole head asks for: `method` and `target` as they were sent, and what its
 /// fields say of its body. It is refused by the first of these that applies: the fields frame no
-/// body; the path has no route; the route has another method; a name isn't one; a body that is to
-/// be stored has no length, or is too long.
+/// body; the path has no route; the route has another method; a name isn't one; a rule isn't one; a
+/// body that is to be stored has no length, or is too long.
 pub fn read_request<'t>(
     routes: &Routes,
     method: &[u8],

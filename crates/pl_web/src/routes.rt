@@ -6,7 +6,8 @@ ghost use Rattle.pl_web.specs.Router.{all_routes};
 use matchit::{InsertError, Router};
 use std::alloc::{AllocError, Global};
 
-/// What a path asks for. `{bench}`, `{profile}` and `{key}` stand for a segment of a byte or more.
+/// What a path asks for. `{bench}`, `{profile}`, `{key}` and `{rule}` stand for a segment of a byte
+/// or more.
 #[derive(Clone, Copy, Debug, PartialEq, Eq)]
 pub enum Kind {
     /// `/benches/{bench}/profiles/{profile}`: a profile is stored.
@@ -19,6 +20,8 @@ pub enum Kind {
     GetCapture,
     /// `/benches/{bench}/captures/{key}/verdicts`: what is wrong with a capture.
     GetVerdicts,
+    /// `/benches/{bench}/rules/{rule}`: where the captures of a bench break a rule.
+    GetHits,
 }
 
 /// A router with all routes.
@@ -37,6 +40,7 @@ fn make_router(alloc: Global) -> Result<Router<Kind>, InsertError>
         "/benches/{bench}/captures/{key}/verdicts",
         Kind::GetVerdicts,
     )?;
+    router.insert("/benches/{bench}/rules/{rule}", Kind::GetHits)?;
     Ok(router)
 }
 

@@ -4,6 +4,10 @@
 #[cfg(test)]
 mod archive;
 #[cfg(test)]
+mod exchange;
+#[cfg(test)]
+mod hits;
+#[cfg(test)]
 mod hostile;
 #[cfg(test)]
 mod replies;

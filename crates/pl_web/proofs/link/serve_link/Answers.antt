@@ -1,4 +1,4 @@
-use Rattle.std.proofs.Common.{◌≡◌, subst}
+use Rattle.std.proofs.Common.{subst}
 use Rattle.pl_io.specs.Links.{Closed, Gives}
 use Rattle.pl_web.proofs.Linked.{linked}
 use Rattle.pl_web.proofs.link.serve_link.Goals as goal

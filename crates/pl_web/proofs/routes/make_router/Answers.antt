@@ -5,9 +5,10 @@ use Rattle.pl_web.proofs.routes.make_router.Goals as goal
 pub returns : goal.returns
 unfolding matchit_on_literals all_routes
 returns c = rw (
+  c.in_ok-insert-5.ensures.1,
   c.in_ok-insert-4.ensures.1,
   c.in_ok-insert-3.ensures.1,
   c.in_ok-insert-2.ensures.1,
   c.in_ok-insert.ensures.1,
   c.new-router.ensures,
-) at c.in_ok-insert-5.ensures.1
+) at c.in_ok-insert-6.ensures.1
