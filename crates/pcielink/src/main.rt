@@ -9,6 +9,7 @@ use pl_cli::status::{NO_MEMORY, STORE_FAULT, WRITE_FAULT};
 use pl_io::{Door, FileShelf, MemDoor, Sink, StdSink, TcpDoor, write_all};
 use pl_keeper::{Keeper, MapKeeper, SqliteKeeper};
 use pl_report::store_fault_line;
+use pl_watch::{FileWatch, WatchedKeeper};
 use sqlite::Connection;
 use std::alloc::AllocError;
 use std::env::args;
@@ -57,11 +58,12 @@ fn serve(rt: &HostRuntime, words: &[&str], address: &str, store: &str) -> u8 {
             Err(_) => WRITE_FAULT,
         };
     };
-    let mut keeper = SqliteKeeper::new(connection);
+    let watch = FileWatch::new(rt, store);
+    let mut keeper = WatchedKeeper::new(SqliteKeeper::new(connection), watch);
     let mut door = TcpDoor::bind(rt, address);
     let status = run_over(rt, words, &mut out, &mut door, &mut keeper);
     // what it couldn't copy into the file stands in the log
-    let _closed = keeper.into_connection().close();
+    let _closed = keeper.into_keeper().into_connection().close();
     status
 }
 
