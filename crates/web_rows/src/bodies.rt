@@ -50,6 +50,7 @@ fn each_refusal_has_its_reply(rt: HostRuntime) -> Result<(), Fail> {
             "{\"error\":\"method\"}",
         ),
         (Refusal::Name, Status::BadRequest, "{\"error\":\"name\"}"),
+        (Refusal::NoRule, Status::NotFound, "{\"error\":\"rule\"}"),
         (
             Refusal::NoLength,
             Status::LengthRequired,

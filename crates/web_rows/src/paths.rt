@@ -3,7 +3,7 @@
 use pl_web::{Kind, Routes, is_name, segment};
 use std::test::Fail;
 
-const PATHS: [(&str, Option<Kind>); 18] = [
+const PATHS: [(&str, Option<Kind>); 21] = [
     ("/benches/b1/profiles/gen3", Some(Kind::PutProfile)),
     (
         "/benches/b1/profiles/gen3/captures/run-7",

@@ -60,6 +60,13 @@ fn a_bench_shows_its_own_captures_alone(rt: HostRuntime) -> Result<(), Fail> {
     let asked = "GET /benches/b2/captures HTTP/1.1\r\n\r\n";
     let list = b"{\"bench\":\"b2\",\"captures\":[]}";
     assert!(rt; answers(alloc, &mut keeper, asked, b"", 200, list)?);
+    let asked = "GET /benches/b2/rules/L2 HTTP/1.1\r\n\r\n";
+    let found = b"{\"bench\":\"b2\",\"found\":[],\"rule\":\"L2\",\"total\":0}";
+    assert!(rt; answers(alloc, &mut keeper, asked, b"", 200, found)?);
+    let asked = "GET /benches/b1/rules/L2 HTTP/1.1\r\n\r\n";
+    let found = "{\"bench\":\"b1\",\"found\":[{\"at\":2,\"key\":\"k1\"}],\
+                 \"rule\":\"L2\",\"total\":1}";
+    assert!(rt; answers(alloc, &mut keeper, asked, b"", 200, found.as_bytes())?);
     Ok(())
 }
 

@@ -1,5 +1,6 @@
 //! What requests ask for, and which of two reasons to refuse one comes first.
 
+use pl_base::Rule;
 use pl_head::{Form, Method};
 use pl_web::{Refusal, Request, Routes, read_request};
 use std::test::Fail;
@@ -35,6 +36,9 @@ fn each_route_asks_for_what_it_names(rt: HostRuntime) -> Result<(), Fail> {
     let target = "/benches/b1/captures/run-7/verdicts";
     let asked = read_request(&routes, b"GET", target, Form::Without);
     assert_eq!(rt; asked, Ok(Request::GetVerdicts { bench, key }));
+    let asked = read_request(&routes, b"GET", "/benches/b1/rules/M20", Form::Without);
+    let rule = Rule::M20;
+    assert_eq!(rt; asked, Ok(Request::GetHits { bench, rule }));
     Ok(())
 }
 
@@ -52,7 +56,7 @@ fn a_get_may_have_a_length(rt: HostRuntime) -> Result<(), Fail> {
 }
 
 /// Each is broken in two ways, and refused for the first.
-const REFUSED: [(&[u8], &str, Form, Refusal); 10] = [
+const REFUSED: [(&[u8], &str, Form, Refusal); 15] = [
     (b"DELETE", "/nowhere", Form::Refused, Refusal::Framing),
     (b"DELETE", "/nowhere", Form::Without, Refusal::Route),
     (b"GET", "/benches/B1/captures/", SIZED, Refusal::Route),
@@ -97,6 +101,26 @@ const REFUSED: [(&[u8], &str, Form, Refusal); 10] = [
         "/benches/b1/profiles/p",
         Form::Length(4_194_305),
         Refusal::TooLong,
+    ),
+    (b"GET", "/benches/B1/rules/", SIZED, Refusal::Route),
+    (
+        b"PUT",
+        "/benches/B1/rules/Z9",
+        Form::Without,
+        Refusal::WrongMethod(Method::Get),
+    ),
+    (b"GET", "/benches/B1/rules/Z9", Form::Without, Refusal::Name),
+    (
+        b"GET",
+        "/benches/b1/rules/Z9",
+        Form::Length(4_194_305),
+        Refusal::NoRule,
+    ),
+    (
+        b"GET",
+        "/benches/b1/rules/L2?all",
+        Form::Without,
+        Refusal::NoRule,
     ),
 ];
 
