@@ -83,7 +83,7 @@ class Served:
                 return None
             try:
                 return socket.create_connection(("127.0.0.1", self.port), timeout=150)
-            except ConnectionRefusedError:
+            except (ConnectionRefusedError, ConnectionResetError):
                 time.sleep(0.005)
         raise SystemExit("it doesn't listen")
 
