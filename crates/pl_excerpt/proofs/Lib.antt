@@ -1,0 +1,8 @@
+mod Answers
+mod Copies
+mod Finishing
+mod Longer
+mod Records
+mod Searches
+mod Steadies
+mod Taking

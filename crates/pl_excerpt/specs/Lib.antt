@@ -1,0 +1,11 @@
+pub mod CoreItems
+pub mod Cases
+pub mod Selected
+pub mod Excerpt
+pub mod Answer
+pub mod Sources
+pub mod Searching
+pub mod Writing
+pub mod Replaying
+pub mod Promise
+pub mod Transactions

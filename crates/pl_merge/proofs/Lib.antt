@@ -1,0 +1,13 @@
+pub mod Longer
+pub mod Lawfuls
+pub mod Taking
+pub mod Finishing
+pub mod Steadies
+pub mod Headers
+pub mod Merges
+pub mod Passing
+pub mod Outcomes
+pub mod Mixes
+pub mod Measures
+pub mod Closings
+pub mod Promises
